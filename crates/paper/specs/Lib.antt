@@ -3,3 +3,4 @@ pub mod Table1
 pub mod Rules
 pub mod Definitions
 pub mod Marking
+pub mod Examples

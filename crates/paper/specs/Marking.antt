@@ -1,5 +1,5 @@
 -- Document 01, "Model wanted": Held, Clean, can be marked, settled, and the values of a settled marking.
-use mathlib.Core.List.{List, []}
+use mathlib.Core.List.{List, [], _∷_}
 use mathlib.Core.Bool.{Bool, true, false, not, cond}
 use mathlib.Core.Logic.{_⊎_, _↔_}
 use mathlib.Core.Path.{_≡_}
@@ -7,7 +7,7 @@ use Prim.Native.Nat.{ℕ, zero, suc, _<_}
 use lib.Dec.{T, eqb}
 use Rattle.paper.specs.Table1.{Value, 𝐟, 𝐮, 𝐢, 𝐭}
 use Rattle.paper.specs.Rules.{Rule, atom, positive, negative, _∈_}
-use Rattle.paper.specs.Definitions.{Interpretation}
+use Rattle.paper.specs.Definitions.{Interpretation, value}
 
 -- a set of marked atoms
 abbrev pub Marks : Type 0
@@ -72,3 +72,29 @@ byMarkAndHeld false false false = 𝐮
 -- the value of an atom, for marks and the held literals
 abbrev pub settledValue : Marks → Interpretation → ℕ → Value
 settledValue A I a = byMarkAndHeld (A a) (I (positive a)) (I (negative a))
+
+-- how many of the first N are in a set of atoms
+abbrev pub count : ℕ → (ℕ → Bool) → ℕ
+count zero S = 0
+count (suc n) S = cond (S n) (suc (count n S)) (count n S)
+
+-- going through atoms in any order: each is marked if it can be marked then, and left alone otherwise
+pub data Pass (R : List Rule) : Marks → List ℕ → Marks → Type 0 where
+  end : {A : Marks} → Pass R A [] A
+  marks : {A B : Marks} {a : ℕ} {rest : List ℕ} → CanBeMarked R A a → Pass R (mark A a) rest B → Pass R A (a ∷ rest) B
+  leaves : {A B : Marks} {a : ℕ} {rest : List ℕ} → (CanBeMarked R A a → ⊥) → Pass R A rest B → Pass R A (a ∷ rest) B
+
+-- k passes, each over all N atoms in an order of its own (with repeats, if it likes)
+pub data Passes (R : List Rule) (N : ℕ) : ℕ → Marks → Marks → Type 0 where
+  no-pass : {A : Marks} → Passes R N 0 A A
+  then-pass : {k : ℕ} {A B C : Marks} (l : List ℕ) → Passes R N k A B → ((a : ℕ) → a < N → a ∈ l) → Pass R B l C → Passes R N (suc k) A C
+
+abbrev pub isInconsistent : Value → Bool
+isInconsistent 𝐟 = false
+isInconsistent 𝐮 = false
+isInconsistent 𝐢 = true
+isInconsistent 𝐭 = false
+
+-- the inconsistent atoms of an interpretation
+abbrev pub inconsistent : Interpretation → ℕ → Bool
+inconsistent I a = isInconsistent (value I (positive a))

@@ -1,0 +1,84 @@
+-- Counting the members of a set below N. Assumes nothing.
+use mathlib.Core.Bool.{Bool, true, false, not, cond}
+use mathlib.Core.Logic.{_⊎_, inl, inr, ⊎-elim}
+use mathlib.Core.Path.{_≡_, refl, subst, subst⁻¹, sym, ap, _∙_}
+use Prim.Native.Nat.{ℕ, zero, suc, _≤_, _<_, _+_}
+use native.Mathlib.Omega.{arith}
+use lib.Dec.{T, T-not, eqb, eqb→eq, eqb-refl}
+use Rattle.paper.specs.Marking.{count, mark, Marked, Unmarked}
+use Rattle.paper.proofs.Tests.{either, T→true, not→false, refuted→false}
+use Rattle.paper.proofs.Leasts.{mark-⊆}
+
+-- equal sets below N have equal counts
+pub count-≡ : (N : ℕ) (S S′ : ℕ → Bool) → ((a : ℕ) → a < N → S a ≡ S′ a) → count N S ≡ count N S′
+count-≡ zero S S′ f = refl
+count-≡ (suc n) S S′ f = rw (f n (omega arith), count-≡ n S S′ (λ a h. f a (omega arith)))
+
+pub count≤ : (N : ℕ) (S : ℕ → Bool) → count N S ≤ N
+count≤ zero S = omega arith
+count≤ (suc n) S = go (S n) (count≤ n S)
+  where
+    go : (b : Bool) → count n S ≤ n → cond b (suc (count n S)) (count n S) ≤ suc n
+    go true h = omega arith
+    go false h = omega arith
+
+-- no members
+pub count-none : (N : ℕ) (S : ℕ → Bool) → ((a : ℕ) → a < N → T (not (S a))) → count N S ≡ 0
+count-none zero S f = refl
+count-none (suc n) S f = rw (not→false (S n) (f n (omega arith))) (count-none n S (λ a h. f a (omega arith)))
+
+-- as many as there are: all
+pub count-full : (N : ℕ) (S : ℕ → Bool) → N ≤ count N S → (a : ℕ) → a < N → T (S a)
+count-full zero S h a lt = absurd (omega arith)
+count-full (suc n) S h a lt = go (S n) refl h (λ k b l. count-full n S k b l)
+  where
+    go : (c : Bool) → S n ≡ c → suc n ≤ cond c (suc (count n S)) (count n S) → (n ≤ count n S → (b : ℕ) → b < n → T (S b)) → T (S a)
+    go true e k below =
+        ⊎-elim (λ (q : T (eqb a n)). rw (eqb→eq a n q, e) tt)
+        (λ (q : T (not (eqb a n))).
+        let ne : (a ≡ n → ⊥) = λ p. T-not (eqb a n) q (subst⁻¹ (λ (z : ℕ). T (eqb z n)) p (eqb-refl n)) in
+        below (omega arith) a (omega arith))
+        (either (eqb a n))
+    go false e k below = let b = count≤ n S in absurd (omega arith)
+
+-- a mark at N or above is not counted
+count-mark-above : (N : ℕ) (S : ℕ → Bool) (a : ℕ) → N ≤ a → count N (mark S a) ≡ count N S
+count-mark-above N S a h =
+    count-≡ N (mark S a) S (λ b lt. rw (refuted→false (eqb b a) (λ t. let e = eqb→eq b a t in absurd (omega arith))))
+
+-- one more member
+pub count-mark : (N : ℕ) (S : ℕ → Bool) (a : ℕ) → a < N → Unmarked S a → count N (mark S a) ≡ suc (count N S)
+count-mark zero S a h u = absurd (omega arith)
+count-mark (suc n) S a h u = go (either (eqb n a)) (λ lt. count-mark n S a lt u)
+  where
+    go : T (eqb n a) ⊎ T (not (eqb n a)) → (a < n → count n (mark S a) ≡ suc (count n S))
+        → cond (mark S a n) (suc (count n (mark S a))) (count n (mark S a)) ≡ suc (cond (S n) (suc (count n S)) (count n S))
+    go (inl q) below =
+        let e = eqb→eq n a q in
+        let f : S n ≡ false = not→false (S n) (rw e u) in
+        rw (T→true (eqb n a) q, f) (ap suc (count-mark-above n S a (omega arith)))
+    go (inr q) below =
+        let ne : (n ≡ a → ⊥) = λ p. T-not (eqb n a) q (subst⁻¹ (λ (z : ℕ). T (eqb z a)) p (eqb-refl a)) in
+        rw (not→false (eqb n a) q, below (omega arith)) (two (S n))
+      where
+        two : (b : Bool) → cond b (suc (suc (count n S))) (suc (count n S)) ≡ suc (cond b (suc (count n S)) (count n S))
+        two true = refl
+        two false = refl
+
+-- more members, no smaller count
+pub count-mono : (N : ℕ) (S S′ : ℕ → Bool) → ((a : ℕ) → a < N → T (S a) → T (S′ a)) → count N S ≤ count N S′
+count-mono zero S S′ f = omega arith
+count-mono (suc n) S S′ f = go (S n) (S′ n) (f n (omega arith)) (count-mono n S S′ (λ a h. f a (omega arith)))
+  where
+    go : (b c : Bool) → (T b → T c) → count n S ≤ count n S′ → cond b (suc (count n S)) (count n S) ≤ cond c (suc (count n S′)) (count n S′)
+    go true true g h = omega arith
+    go true false g h = absurd (g tt)
+    go false true g h = omega arith
+    go false false g h = omega arith
+
+-- one member more at the least, a larger count
+pub count-less : (N : ℕ) (S S′ : ℕ → Bool) → ((a : ℕ) → T (S a) → T (S′ a)) → (a : ℕ) → a < N → Unmarked S a → Marked S′ a → count N S < count N S′
+count-less N S S′ s a h u m =
+    let e = count-mark N S a h u in
+    let k = count-mono N (mark S a) S′ (λ b lt x. mark-⊆ S S′ a s m b x) in
+    omega arith

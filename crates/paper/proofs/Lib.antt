@@ -1,0 +1,15 @@
+-- Rooms of the proof, from the leaves up; Theorems holds the public statements.
+pub mod Tests
+pub mod Values
+pub mod Leasts
+pub mod Closure
+pub mod Settled
+pub mod Contained
+pub mod Supported
+pub mod Counting
+pub mod Order
+pub mod Existence
+pub mod Smallest
+pub mod Checker
+pub mod Examples
+pub mod Theorems
