@@ -1,14 +1,14 @@
 -- Laws about one bit of a number.
-use mathlib.Core.Path.{_≡_, refl, sym, ap, ap₂, _∙_}
+use mathlib.Core.Path.{_≡_, refl, sym, ap, _∙_}
 use mathlib.Core.Logic.{_≢_}
-use mathlib.Core.Bool.{Bool, true, false, _||_}
-use Prim.Native.Nat.{ℕ, zero, suc, _+_, _*_, _/_, _%_, _^_, _<_, _≤_}
+use mathlib.Core.Bool.{true, false, _||_}
+use Prim.Native.Nat.{ℕ, zero, suc, _/_, _%_, _^_, _<_}
 use native.Mathlib.Nat.{zero-div, div-one, div-self, div-div-eq-div-mul, pow-succ', pow-suc, mul-mod-left, mul-div-cancel, zero-lt-suc, mod-lt}
 use native.Mathlib.Omega.{arith}
 use lib.Dec.{eqb}
 use lib.Pow.{pow-pos}
-use lib.Bits.{bitOr, bitXor, or-shr, or-mod, xor-shr, xor-mod}
-use borrow.Author.Tests.{eqb-true, eqb-false}
+use lib.Bits.{bitOr, or-shr, or-mod}
+use borrow.Author.Tests.{eqb-true}
 use Rattle.bits.specs.Sets.{bit}
 
 two-pos : 0 < 2

@@ -4,13 +4,12 @@ use mathlib.Core.Logic.{_≢_}
 use mathlib.Core.List.{List}
 use mathlib.Core.Bool.{Bool, true, false, cond, _||_, or-true, or-false}
 use Prim.Native.Nat.{ℕ, zero, suc, _+_, _*_, _/_, _%_, _^_, _<_, _≤_}
-use native.Mathlib.Nat.{div-add-mod', mod-lt, zero-lt-suc}
+use native.Mathlib.Nat.{mod-lt, zero-lt-suc}
 use native.Mathlib.Decide.{ℕ-discrete, decLt}
 use native.Mathlib.Omega.{arith}
-use lib.Dec.{eqb}
-use lib.Pow.{pow-pos, pow-lt}
+use lib.Pow.{pow-lt}
 use lib.Bits.{bitOr, or-lt}
-use lib.ListN.{length, getD, set, length-set, List·getD-eq-default}
+use lib.ListN.{length, getD, set, replicate, length-set, List·getD-eq-default}
 use lib.Seq.{getD-set-same, getD-set-other, set-out, ext-getD}
 use borrow.Author.Tests.{eq-eqb, ne-eqb}
 use Rattle.bits.specs.Sets.{bit, member, putIn, Words, _with_}
@@ -86,3 +85,13 @@ same-members s t hs ht e h =
     let q : (64 * w + j) / 64 ≡ w = omega arith in
     let r : (64 * w + j) % 64 ≡ j = omega arith in
     ap₂ (λ (x y : ℕ). bit (getD s x 0) y) (sym q) (sym r) ∙ h (64 * w + j) ∙ ap₂ (λ (x y : ℕ). bit (getD t x 0) y) q r))
+
+zeros : (n i : ℕ) → getD {A = ℕ} (replicate n 0) i 0 ≡ 0
+zeros zero i = refl
+zeros (suc n) zero = refl
+zeros (suc n) (suc i) = zeros n i
+
+-- a row of zeros has no members
+pub member-of-zeros : (n i : ℕ) → member (replicate n 0) i ≡ false
+unfolding member
+member-of-zeros n i = ap (λ (w : ℕ). bit w (i % 64)) (zeros n (i / 64)) ∙ bit-of-zero (i % 64)

@@ -1,5 +1,5 @@
 -- How many numbers below a bound pass a test, and the lowest that does: facts of ℕ → Bool alone.
-use mathlib.Core.Bool.{Bool, true, false, cond}
+use mathlib.Core.Bool.{Bool, true, false}
 use Prim.Native.Nat.{ℕ, zero, suc, _+_}
 
 -- 1 for a number that is counted

@@ -1,4 +1,4 @@
-use mathlib.Core.Path.{_≡_, refl, sym, ap, _∙_}
+use mathlib.Core.Path.{_≡_, refl, sym, _∙_}
 use Prim.Native.Nat.{ℕ, _*_, _%_, _^_}
 use native.Mathlib.Nat.{one-mul}
 use native.Mathlib.Omega.{arith}
@@ -9,43 +9,33 @@ use Rattle.bits.specs.Sets.{putIn}
 use Rattle.bits.proofs.Laws.{putIn-past}
 use Rattle.bits.proofs.put.Statement.{statement}
 use Rattle.bits.proofs.put.Tie as tie
-use Rattle.bits.proofs.put.Reads as reads
-use Rattle.bits.proofs.put.Lts as lts
 
 -- the shift of 1 by less than 64 loses nothing
 one-bit : (i : ℕ) → (1 * 2 ^ (i % 64)) % 18446744073709551616 ≡ 2 ^ (i % 64)
 one-bit i = shl-exact 1 (i % 64) 64 (lit< tt) (omega arith) ∙ one-mul (2 ^ (i % 64))
 
--- src/lib.rt:22:18
 mul-set : tie.Need-mul-set
 mul-set c = search needs
 
--- src/lib.rt:22:18
 slice-read-set : tie.Need-slice-read-set
 slice-read-set c = search needs
 
--- src/lib.rt:22:27
 shl-set : tie.Need-shl-set
 shl-set c = search needs
 
--- src/lib.rt:22:9
 mul-set-2 : tie.Need-mul-set-2
 mul-set-2 c = search needs
 
--- src/lib.rt:22:9
 slice-write-set : tie.Need-slice-write-set
 slice-write-set c = search needs
 
--- src/lib.rt:17:1
 same-length : tie.Need-same-length
 same-length c = search needs
 
--- src/lib.rt:17:1
 returns : tie.Need-returns
 unfolding putIn
 returns c = rw (one-bit (c .before .before .args .i)) refl
 
--- src/lib.rt:17:1
 returns-2 : tie.Need-returns-2
 returns-2 c = sym (putIn-past (c .before .args .set .now) (c .before .args .i) (omega arith))
 
