@@ -19,7 +19,7 @@ value-room-too-small = refusal 3 0
 
 -- 4: record cut short; place: table length
 abbrev pub cut-short : ℕ → Refusal
-cut-short length = refusal 4 length
+cut-short words = refusal 4 words
 
 -- 5: literal code not below 2N; place: that word
 abbrev pub not-a-literal : ℕ → Refusal

@@ -1,5 +1,5 @@
 -- What one turn of the check does, over plain lists.
-use mathlib.Core.Path.{_≡_, refl, sym, ap, ap₂, _∙_, fun-ext}
+use mathlib.Core.Path.{_≡_, refl, sym, ap, _∙_, fun-ext}
 use mathlib.Core.List.{List, _∷_}
 use mathlib.Core.Bool.{Bool, true, false}
 use Prim.Native.Nat.{ℕ, zero, suc, _+_, _-_, _*_, _<_, _≤_}
@@ -16,7 +16,8 @@ use Rattle.words.specs.declared.Checked.{Checked}
 use Rattle.words.specs.declared.Checked.the-variants.{Accepted, Refused}
 use Rattle.words.specs.declared.Due.{Due}
 use Rattle.words.specs.declared.Due.the-variants.{Head, Count, Size, Literal}
-use Rattle.words.specs.Check.{asking, orElse, fault, groupsDue, literalsDue, next, seenAfter, noted, noHeads, walk, ended}
+use Rattle.words.specs.Flags.{noted}
+use Rattle.words.specs.Check.{asking, orElse, fault, groupsDue, literalsDue, next, seenAfter, noHeads, walk, ended}
 
 pub groupsDue-some : (g : ℕ) → (g ≡ 0 → ⊥) → Size (g - 1) ≡ groupsDue g
 groupsDue-some zero h = absurd (h refl)

@@ -7,7 +7,7 @@ use lib.Dec.{leb, ltb}
 use lib.ListN.{length}
 use Rattle.refusal.specs.declared.Refusal.{Refusal}
 use Rattle.refusal.specs.Numbers.{too-many-atoms, table-too-long, cut-short, not-a-literal, wrong-length, second-rule}
-use Rattle.bits.specs.Sets.{_with_, putIn}
+use Rattle.bits.specs.Sets.{_with_}
 use Rattle.words.specs.declared.Checked.{Checked}
 use Rattle.words.specs.declared.Checked.the-variants.{Accepted, Refused}
 use Rattle.words.specs.declared.Due.{Due}
@@ -62,21 +62,14 @@ seenAfter Count seen w = seen
 seenAfter (Size g) seen w = seen
 seenAfter (Literal k g) seen w = seen
 
--- the same of a row of words
-abbrev pub noted : Due → List ℕ → ℕ → List ℕ
-noted Head s w = putIn s w
-noted Count s w = s
-noted (Size g) s w = s
-noted (Literal k g) s w = s
-
--- the words end: between two records, or inside one
+-- the words end, so many of them: between two records, or inside one
 abbrev pub ended : Due → ℕ → Checked
-ended Head length = Accepted
-ended Count length = Refused (cut-short length)
-ended (Size g) length = Refused (cut-short length)
-ended (Literal k g) length = Refused (cut-short length)
+ended Head words = Accepted
+ended Count words = Refused (cut-short words)
+ended (Size g) words = Refused (cut-short words)
+ended (Literal k g) words = Refused (cut-short words)
 
--- words left to right from place p
+-- words left to right from place p: the first faulty one decides
 unfoldable pub walk : ℕ → (ℕ → Bool) → Due → ℕ → List ℕ → Checked
 walk N seen due p [] = ended due p
 walk N seen due p (w ∷ t) = orElse (fault N seen due p w) (walk N (seenAfter due seen w) (next due w) (suc p) t)
@@ -85,11 +78,11 @@ walk N seen due p (w ∷ t) = orElse (fault N seen due p w) (walk N (seenAfter d
 abbrev pub noHeads : ℕ → Bool
 noHeads w = false
 
--- the table check
+-- the table check: N above 512, table above 8,192 words, then the words
 unfoldable pub tableCheck : ℕ → List ℕ → Checked
 tableCheck N t =
     asking (leb N 512) too-many-atoms (asking (leb (length t) 8192) table-too-long (walk N noHeads Head 0 t))
 
--- a table that the check accepts
-abbrev pub Table : ℕ → List ℕ → Type 0
-Table N t = tableCheck N t ≡ Accepted
+-- the check accepts the table
+abbrev pub AcceptedTable : ℕ → List ℕ → Type 0
+AcceptedTable N t = tableCheck N t ≡ Accepted

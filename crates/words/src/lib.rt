@@ -4,7 +4,8 @@ ghost use Prim.Native.Nat.{_<_, _≤_};
 ghost use lib.ListN.{length, getD};
 ghost use Rattle.bits.specs.Sets.{member};
 ghost use Rattle.refusal.specs.Numbers.{refusal};
-ghost use Rattle.words.specs.Check.{fault, literalFault, lengthFault, noted, groupsDue, literalsDue, next, ended, noHeads, walk, tableCheck};
+ghost use Rattle.words.specs.Flags.{noted};
+ghost use Rattle.words.specs.Check.{fault, literalFault, lengthFault, groupsDue, literalsDue, next, ended, noHeads, walk, tableCheck};
 
 // The answer of a check.
 pub enum Checked {
