@@ -1,0 +1,86 @@
+-- Document 01, "Numbers of refusal": when each number is given and at which place, in the table's words and order.
+use Prim.Native.Nat.{ℕ}
+use Rattle.refusal.specs.declared.Refusal.{Refusal}
+
+abbrev pub refusal : ℕ → ℕ → Refusal
+refusal n p = record { number = n; place = p }
+
+-- 1: N above 512; place 0
+abbrev pub too-many-atoms : Refusal
+too-many-atoms = refusal 1 0
+
+-- 2: table above 8,192 words; place 0
+abbrev pub table-too-long : Refusal
+table-too-long = refusal 2 0
+
+-- 3: value room below N bytes; place 0
+abbrev pub value-room-too-small : Refusal
+value-room-too-small = refusal 3 0
+
+-- 4: record cut short; place: table length
+abbrev pub cut-short : ℕ → Refusal
+cut-short words = refusal 4 words
+
+-- 5: literal code not below 2N; place: that word
+abbrev pub not-a-literal : ℕ → Refusal
+not-a-literal word = refusal 5 word
+
+-- 6: m above 64, or k 0 or above 64; place: that word
+abbrev pub wrong-length : ℕ → Refusal
+wrong-length word = refusal 6 word
+
+-- 7: second rule for one head; place: the head (word, or byte of the literal)
+abbrev pub second-rule : ℕ → Refusal
+second-rule head = refusal 7 head
+
+-- 8: sheet above 65,536 bytes; place 0
+abbrev pub sheet-too-long : Refusal
+sheet-too-long = refusal 8 0
+
+-- 9: word buffer below 8,192 or name buffer below 512 entries; place 0
+abbrev pub buffer-too-small : Refusal
+buffer-too-small = refusal 9 0
+
+-- 10: byte that cannot stand there, or sheet ended inside a line; place: that byte; sheet length
+abbrev pub wrong-byte : ℕ → Refusal
+wrong-byte byte = refusal 10 byte
+
+-- 11: name above 24 bytes; place: its 25th byte
+abbrev pub name-too-long : ℕ → Refusal
+name-too-long byte = refusal 11 byte
+
+-- 12: 513th name; place: name's first byte
+abbrev pub too-many-names : ℕ → Refusal
+too-many-names byte = refusal 12 byte
+
+-- 13: 65th group, or 65th literal in a group; place: literal's first byte
+abbrev pub too-many-in-body : ℕ → Refusal
+too-many-in-body byte = refusal 13 byte
+
+-- 14: words would pass 8,192; place: literal's first byte
+abbrev pub too-many-words : ℕ → Refusal
+too-many-words byte = refusal 14 byte
+
+-- 15: value sheet does not fit the text room; place: bytes needed
+abbrev pub text-room-too-small : ℕ → Refusal
+text-room-too-small needed = refusal 15 needed
+
+-- 16: picked atom not below N; place 0
+abbrev pub no-such-atom : Refusal
+no-such-atom = refusal 16 0
+
+-- 17: record has a mark at N or above; place 0
+abbrev pub mark-past-atoms : Refusal
+mark-past-atoms = refusal 17 0
+
+-- 18: report before settled; place 0
+abbrev pub not-settled : Refusal
+not-settled = refusal 18 0
+
+-- 19: evaluation has made N marks and is not settled; place 0
+abbrev pub never-settled : Refusal
+never-settled = refusal 19 0
+
+-- 20: truth code above 3 handed to a connective; place 0
+abbrev pub not-a-truth-code : Refusal
+not-a-truth-code = refusal 20 0

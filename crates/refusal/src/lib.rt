@@ -1,0 +1,46 @@
+// A refusal: one of document 01's numbers, and the place that it names.
+pub struct Refusal {
+    pub number: u64,
+    pub place: u64,
+}
+
+// The numbers as code writes them, by the names of specs/Numbers.antt, which says when each is given.
+pub const TOO_MANY_ATOMS: u64 = 1;
+
+pub const TABLE_TOO_LONG: u64 = 2;
+
+pub const VALUE_ROOM_TOO_SMALL: u64 = 3;
+
+pub const CUT_SHORT: u64 = 4;
+
+pub const NOT_A_LITERAL: u64 = 5;
+
+pub const WRONG_LENGTH: u64 = 6;
+
+pub const SECOND_RULE: u64 = 7;
+
+pub const SHEET_TOO_LONG: u64 = 8;
+
+pub const BUFFER_TOO_SMALL: u64 = 9;
+
+pub const WRONG_BYTE: u64 = 10;
+
+pub const NAME_TOO_LONG: u64 = 11;
+
+pub const TOO_MANY_NAMES: u64 = 12;
+
+pub const TOO_MANY_IN_BODY: u64 = 13;
+
+pub const TOO_MANY_WORDS: u64 = 14;
+
+pub const TEXT_ROOM_TOO_SMALL: u64 = 15;
+
+pub const NO_SUCH_ATOM: u64 = 16;
+
+pub const MARK_PAST_ATOMS: u64 = 17;
+
+pub const NOT_SETTLED: u64 = 18;
+
+pub const NEVER_SETTLED: u64 = 19;
+
+pub const NOT_A_TRUTH_CODE: u64 = 20;

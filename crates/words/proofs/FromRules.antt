@@ -1,0 +1,60 @@
+-- From rules within the limits to an accepted walk over their words.
+use mathlib.Core.Path.{_≡_, refl, ap, ap₂, _∙_}
+use mathlib.Core.List.{List, [], _∷_, _++_, append-assoc, List·Memᴰ·head, List·Memᴰ·tail}
+use mathlib.Core.Bool.{Bool, false, not}
+use Prim.Native.Nat.{ℕ, suc, _*_, _≤_, _<_, zero-le}
+use lib.ListN.{length}
+use borrow.Author.Tests.{lt-ltb, le-leb}
+use Rattle.paper.specs.Rules.{Rule, _∈_}
+use Rattle.refusal.specs.Numbers.{not-a-literal, wrong-length, second-rule}
+use Rattle.bits.specs.Sets.{_with_}
+use Rattle.words.specs.declared.Checked.{Checked}
+use Rattle.words.specs.declared.Checked.the-variants.{Accepted}
+use Rattle.words.specs.declared.Due.the-variants.{Head, Count, Size, Literal}
+use Rattle.words.specs.Layout.{groupsWords, wordsOf}
+use Rattle.words.specs.Check.{asking, orElse, literalFault, lengthFault, fault, groupsDue, literalsDue, walk}
+use Rattle.words.specs.Limits.{GroupWithin}
+use Rattle.words.proofs.Steps.{walk-faultless}
+use Rattle.words.proofs.Good.{Good}
+
+literal-faultless : (N p w : ℕ) → w < 2 * N → literalFault N p w ≡ Accepted
+literal-faultless N p w h = ap (λ (b : Bool). asking b (not-a-literal p) Accepted) (lt-ltb w (2 * N) h)
+
+length-faultless : (least p w : ℕ) → least ≤ w → w ≤ 64 → lengthFault least p w ≡ Accepted
+length-faultless least p w h h′ =
+    ap₂ (λ (b b′ : Bool). asking b (wrong-length p) (asking b′ (wrong-length p) Accepted)) (le-leb least w h) (le-leb w 64 h′)
+
+head-faultless : (N : ℕ) (seen : ℕ → Bool) (p w : ℕ) → w < 2 * N → seen w ≡ false → fault N seen Head p w ≡ Accepted
+head-faultless N seen p w h e =
+    ap₂ (λ (c : Checked) (b : Bool). orElse c (asking (not b) (second-rule p) Accepted)) (literal-faultless N p w h) e
+
+module _ (N : ℕ) (seen : ℕ → Bool) (rest : List ℕ) where
+  accept-literals : (β : List ℕ) (g p : ℕ) → ((l : ℕ) → l ∈ β → l < 2 * N)
+      → ((q : ℕ) → walk N seen (groupsDue g) q rest ≡ Accepted) → walk N seen (literalsDue (length β) g) p (β ++ rest) ≡ Accepted
+  accept-literals [] g p below onward = onward p
+  accept-literals (w ∷ β) g p below onward =
+      walk-faultless N seen (Literal (length β) g) p w (β ++ rest) (literal-faultless N p w (below w (List·Memᴰ·head refl)))
+      ∙ accept-literals β g (suc p) (λ l m. below l (List·Memᴰ·tail m)) onward
+
+accept-groups : (N : ℕ) (seen : ℕ → Bool) (rest : List ℕ) (βs : List (List ℕ)) (p : ℕ) → ((β : List ℕ) → β ∈ βs → GroupWithin N β)
+    → ((q : ℕ) → walk N seen Head q rest ≡ Accepted) → walk N seen (groupsDue (length βs)) p (groupsWords βs ++ rest) ≡ Accepted
+unfolding groupsWords
+accept-groups N seen rest [] p each onward = onward p
+accept-groups N seen rest (β ∷ βs) p each onward =
+    let one = each β (List·Memᴰ·head refl) in
+    ap (λ (u : List ℕ). walk N seen (Size (length βs)) p (length β ∷ u)) (append-assoc β (groupsWords βs) rest)
+    ∙ walk-faultless N seen (Size (length βs)) p (length β) (β ++ (groupsWords βs ++ rest))
+    (length-faultless 1 p (length β) (one .not-empty) (one .at-most-64))
+    ∙ accept-literals N seen (groupsWords βs ++ rest) β (length βs) (suc p) (one .literals-below)
+    (λ q. accept-groups N seen rest βs q (λ γ m. each γ (List·Memᴰ·tail m)) onward)
+
+pub accept-records : (N : ℕ) (seen : ℕ → Bool) (R : List Rule) (p : ℕ) → Good N seen R → walk N seen Head p (wordsOf R) ≡ Accepted
+unfolding walk wordsOf
+accept-records N seen [] p good = refl
+accept-records N seen (ρ ∷ R) p good =
+    walk-faultless N seen Head p (ρ .head) (length (ρ .groups) ∷ (groupsWords (ρ .groups) ++ wordsOf R))
+    (head-faultless N seen p (ρ .head) (good .0) (good .1))
+    ∙ walk-faultless N (seen with ρ .head) Count (suc p) (length (ρ .groups)) (groupsWords (ρ .groups) ++ wordsOf R)
+    (length-faultless 0 (suc p) (length (ρ .groups)) zero-le (good .2 .at-most-64))
+    ∙ accept-groups N (seen with ρ .head) (wordsOf R) (ρ .groups) (suc (suc p)) (good .2 .each-group)
+    (λ q. accept-records N (seen with ρ .head) R q (good .3))

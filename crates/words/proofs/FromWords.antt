@@ -1,0 +1,128 @@
+-- From an accepted walk to the rules whose words it has read.
+use mathlib.Core.Path.{_≡_, refl, sym, ap, ap₂, _∙_, subst}
+use mathlib.Core.Logic.{⊎-elim}
+use mathlib.Core.List.{List, [], _∷_, _++_, append-assoc, List·Memᴰ·not-nil, List·Memᴰ·cases-cons}
+use mathlib.Core.Bool.{Bool, false, not}
+use Prim.Native.Nat.{ℕ, zero, suc, _*_, _≤_, _<_}
+use native.Mathlib.Nat.{not-suc-le-zero}
+use native.Mathlib.Omega.{arith}
+use lib.Dec.{ltb, leb}
+use lib.ListN.{length, length-append}
+use borrow.Author.Tests.{ltb-true, leb-true, not-true}
+use Rattle.paper.specs.Rules.{Rule, _∈_}
+use Rattle.refusal.specs.Numbers.{cut-short, second-rule}
+use Rattle.bits.specs.Sets.{_with_}
+use Rattle.words.specs.declared.Checked.the-variants.{Accepted}
+use Rattle.words.specs.declared.Due.the-variants.{Head, Count}
+use Rattle.words.specs.Layout.{groupsWords, wordsOf}
+use Rattle.words.specs.Check.{asking, literalFault, lengthFault, fault, groupsDue, literalsDue, walk}
+use Rattle.words.specs.Limits.{GroupWithin}
+use Rattle.words.proofs.Steps.{refused-is-not-accepted, asking-accepted, orElse-accepted, head-below}
+use Rattle.words.proofs.Good.{Good}
+
+literal-below : (N p w : ℕ) → literalFault N p w ≡ Accepted → w < 2 * N
+literal-below N p w e = ltb-true w (2 * N) (asking-accepted (ltb w (2 * N)) _ Accepted e .0)
+
+length-between : (least p w : ℕ) → lengthFault least p w ≡ Accepted → (least ≤ w) × (w ≤ 64)
+length-between least p w e =
+    let one = asking-accepted (leb least w) _ _ e in
+    (leb-true least w (one .0), leb-true w 64 (asking-accepted (leb w 64) _ Accepted (one .1) .0))
+
+head-unseen : (N : ℕ) (seen : ℕ → Bool) (p w : ℕ) → fault N seen Head p w ≡ Accepted → seen w ≡ false
+head-unseen N seen p w e =
+    not-true (seen w)
+    (asking-accepted (not (seen w)) (second-rule p) Accepted
+    (orElse-accepted (literalFault N p w) (asking (not (seen w)) (second-rule p) Accepted) e .1) .0)
+
+group-cons : (N l : ℕ) (β : List ℕ) → l < 2 * N → ((x : ℕ) → x ∈ β → x < 2 * N) → (x : ℕ) → x ∈ l ∷ β → x < 2 * N
+group-cons N l β h hs x m = ⊎-elim (λ (e : x ≡ l). subst (λ (y : ℕ). y < 2 * N) (sym e) h) (hs x) (List·Memᴰ·cases-cons m)
+
+body-cons : (N : ℕ) (β : List ℕ) (βs : List (List ℕ)) → GroupWithin N β → ((γ : List ℕ) → γ ∈ βs → GroupWithin N γ)
+    → (γ : List ℕ) → γ ∈ β ∷ βs → GroupWithin N γ
+body-cons N β βs h hs γ m = ⊎-elim (λ (e : γ ≡ β). subst (GroupWithin N) (sym e) h) (hs γ) (List·Memᴰ·cases-cons m)
+
+record Literals (N : ℕ) (seen : ℕ → Bool) (k g : ℕ) (t : List ℕ) : Type 0 where
+  β : List ℕ
+  rest : List ℕ
+  place : ℕ
+  split : t ≡ β ++ rest
+  size : length β ≡ k
+  below : (l : ℕ) → l ∈ β → l < 2 * N
+  goes-on : walk N seen (groupsDue g) place rest ≡ Accepted
+
+literals : (N : ℕ) (seen : ℕ → Bool) (k g p : ℕ) (t : List ℕ) → walk N seen (literalsDue k g) p t ≡ Accepted → Literals N seen k g t
+unfolding walk
+literals N seen zero g p t e =
+    record { β = []; rest = t; place = p; split = refl; size = refl; below = λ l m. absurd (List·Memᴰ·not-nil m); goes-on = e }
+literals N seen (suc k) g p [] e = absurd (refused-is-not-accepted _ e)
+literals N seen (suc k) g p (w ∷ t) e =
+    let both = orElse-accepted _ _ e in
+    let ih = literals N seen k g (suc p) t (both .1) in
+    record {
+      β = w ∷ ih .β;
+      rest = ih .rest;
+      place = ih .place;
+      split = ap (λ (u : List ℕ). w ∷ u) (ih .split);
+      size = ap suc (ih .size);
+      below = group-cons N w (ih .β) (literal-below N p w (both .0)) (ih .below);
+      goes-on = ih .goes-on;
+    }
+
+record Groups (N : ℕ) (seen : ℕ → Bool) (g : ℕ) (t : List ℕ) : Type 0 where
+  βs : List (List ℕ)
+  rest : List ℕ
+  place : ℕ
+  split : t ≡ groupsWords βs ++ rest
+  size : length βs ≡ g
+  each : (β : List ℕ) → β ∈ βs → GroupWithin N β
+  goes-on : walk N seen Head place rest ≡ Accepted
+
+groups : (N : ℕ) (seen : ℕ → Bool) (g p : ℕ) (t : List ℕ) → walk N seen (groupsDue g) p t ≡ Accepted → Groups N seen g t
+unfolding walk groupsWords
+groups N seen zero p t e =
+    record { βs = []; rest = t; place = p; split = refl; size = refl; each = λ β m. absurd (List·Memᴰ·not-nil m); goes-on = e }
+groups N seen (suc g) p [] e = absurd (refused-is-not-accepted _ e)
+groups N seen (suc g) p (k ∷ t) e =
+    let both = orElse-accepted _ _ e in
+    let sizes = length-between 1 p k (both .0) in
+    let one = literals N seen k g (suc p) t (both .1) in
+    let ih = groups N seen g (one .place) (one .rest) (one .goes-on) in
+    record {
+      βs = one .β ∷ ih .βs;
+      rest = ih .rest;
+      place = ih .place;
+      split = ap₂ (λ (x : ℕ) (u : List ℕ). x ∷ u) (sym (one .size))
+          (one .split ∙ ap (λ (u : List ℕ). one .β ++ u) (ih .split) ∙ sym (append-assoc (one .β) (groupsWords (ih .βs)) (ih .rest)));
+      size = ap suc (ih .size);
+      each = body-cons N (one .β) (ih .βs)
+          (record { not-empty = omega (arith, one .size); at-most-64 = omega (arith, one .size); literals-below = one .below }) (ih .each);
+      goes-on = ih .goes-on;
+    }
+
+pub record Records (N : ℕ) (seen : ℕ → Bool) (t : List ℕ) : Type 0 where
+  pub R : List Rule
+  pub split : t ≡ wordsOf R
+  pub good : Good N seen R
+
+pub records : (N : ℕ) (seen : ℕ → Bool) (n p : ℕ) (t : List ℕ) → length t ≤ n → walk N seen Head p t ≡ Accepted → Records N seen t
+unfolding walk wordsOf
+records N seen zero p [] h e = record { R = []; split = refl; good = tt }
+records N seen (suc n) p [] h e = record { R = []; split = refl; good = tt }
+records N seen zero p (w ∷ t) h e = absurd (not-suc-le-zero h)
+records N seen (suc n) p (w ∷ []) h e = absurd (refused-is-not-accepted (cut-short (suc p)) (orElse-accepted (fault N seen Head p w) (walk N (seen with w) Count (suc p) []) e .1))
+records N seen (suc n) p (w ∷ m ∷ t) h e =
+    let first = orElse-accepted (fault N seen Head p w) (walk N (seen with w) Count (suc p) (m ∷ t)) e in
+    let second = orElse-accepted (fault N (seen with w) Count (suc p) m) (walk N (seen with w) (groupsDue m) (suc (suc p)) t) (first .1) in
+    let body = groups N (seen with w) m (suc (suc p)) t (second .1) in
+    let ih = records N (seen with w) n (body .place) (body .rest)
+    (omega (arith, ap length (body .split), length-append (groupsWords (body .βs)) (body .rest))) (body .goes-on) in
+    record {
+      R = record { head = w; groups = body .βs } ∷ ih .R;
+      split = ap₂ (λ (x : ℕ) (u : List ℕ). w ∷ x ∷ u) (sym (body .size)) (body .split ∙ ap (λ (u : List ℕ). groupsWords (body .βs) ++ u) (ih .split));
+      good = (
+        head-below N seen p w (first .0),
+        head-unseen N seen p w (first .0),
+        record { at-most-64 = omega (arith, body .size, length-between 0 (suc p) m (second .0) .1); each-group = body .each },
+        ih .good,
+      );
+    }

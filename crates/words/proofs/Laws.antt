@@ -1,0 +1,94 @@
+-- What an accepted table means, and that the words of rules within the limits are accepted.
+use mathlib.Core.Path.{_≡_, refl, sym, ap, ap₂, _∙_, subst}
+use mathlib.Core.Logic.{⊎-elim}
+use mathlib.Core.List.{List, [], _∷_, List·Memᴰ·not-nil, List·Memᴰ·cases-cons}
+use mathlib.Core.Bool.{Bool}
+use Prim.Native.Nat.{ℕ, _*_, _≤_, _<_}
+use native.Mathlib.Nat.{le-refl}
+use lib.Dec.{leb}
+use lib.ListN.{length}
+use borrow.Author.Tests.{leb-true, le-leb}
+use Rattle.paper.specs.Rules.{Rule, _∈_, OneRulePerHead, HeadsBelow}
+use Rattle.refusal.specs.Numbers.{too-many-atoms, table-too-long}
+use Rattle.bits.specs.Sets.{_with_}
+use Rattle.words.specs.declared.Checked.{Checked}
+use Rattle.words.specs.declared.Checked.the-variants.{Accepted}
+use Rattle.words.specs.declared.Due.the-variants.{Head}
+use Rattle.words.specs.Layout.{wordsOf, rulesOf}
+use Rattle.words.specs.Check.{asking, noHeads, walk, tableCheck, AcceptedTable}
+use Rattle.words.specs.Limits.{DistinctHeads, Within}
+use Rattle.words.proofs.Steps.{asking-accepted}
+use Rattle.words.proofs.Reading.{rulesOf-wordsOf}
+use Rattle.words.proofs.Good.{good-heads, good-distinct, good-bodies, good-of}
+use Rattle.words.proofs.FromWords.{Records, records}
+use Rattle.words.proofs.FromRules.{accept-records}
+
+-- with distinct heads there is only one rule for each head
+pub distinct-one-rule : (R : List Rule) → DistinctHeads R → OneRulePerHead R
+unfolding DistinctHeads
+distinct-one-rule [] distinct ρ σ m m′ e = absurd (List·Memᴰ·not-nil m)
+distinct-one-rule (τ ∷ R) distinct ρ σ m m′ e =
+    ⊎-elim
+    (λ (p : ρ ≡ τ). ⊎-elim (λ (q : σ ≡ τ). p ∙ sym q) (λ q. absurd (distinct .0 σ q (sym e ∙ ap (λ (x : Rule). x .head) p))) (List·Memᴰ·cases-cons m′))
+    (λ p. ⊎-elim (λ (q : σ ≡ τ). absurd (distinct .0 ρ p (e ∙ ap (λ (x : Rule). x .head) q))) (λ q. distinct-one-rule R (distinct .1) ρ σ p q e) (List·Memᴰ·cases-cons m′))
+    (List·Memᴰ·cases-cons m)
+
+pub accepted-atoms : (N : ℕ) (t : List ℕ) → AcceptedTable N t → N ≤ 512
+unfolding tableCheck
+accepted-atoms N t a = leb-true N 512 (asking-accepted (leb N 512) _ _ a .0)
+
+pub accepted-length : (N : ℕ) (t : List ℕ) → AcceptedTable N t → length t ≤ 8192
+unfolding tableCheck
+accepted-length N t a = leb-true (length t) 8192 (asking-accepted (leb (length t) 8192) _ _ (asking-accepted (leb N 512) _ _ a .1) .0)
+
+accepted-walk : (N : ℕ) (t : List ℕ) → AcceptedTable N t → walk N noHeads Head 0 t ≡ Accepted
+unfolding tableCheck
+accepted-walk N t a = asking-accepted (leb (length t) 8192) _ _ (asking-accepted (leb N 512) _ _ a .1) .1
+
+accepted-records : (N : ℕ) (t : List ℕ) → AcceptedTable N t → Records N noHeads t
+accepted-records N t a = records N noHeads (length t) 0 t (le-refl (length t)) (accepted-walk N t a)
+
+-- an accepted table is the words of its rules
+pub wordsOf-rulesOf : (N : ℕ) (t : List ℕ) → AcceptedTable N t → wordsOf (rulesOf t) ≡ t
+wordsOf-rulesOf N t a =
+    let read = accepted-records N t a in
+    ap wordsOf (ap rulesOf (read .split) ∙ rulesOf-wordsOf (read .R)) ∙ sym (read .split)
+
+-- the rules of an accepted table are within document 01's limits
+pub accepted-within : (N : ℕ) (t : List ℕ) → AcceptedTable N t → Within N (rulesOf t)
+accepted-within N t a =
+    let read = accepted-records N t a in
+    subst (Within N) (sym (ap rulesOf (read .split) ∙ rulesOf-wordsOf (read .R)))
+    (record {
+      at-most-512 = accepted-atoms N t a;
+      at-most-8192 = subst (λ (u : List ℕ). length u ≤ 8192) (read .split) (accepted-length N t a);
+      heads-below = good-heads N noHeads (read .R) (read .good);
+      distinct-heads = good-distinct N noHeads (read .R) (read .good);
+      each-body = good-bodies N noHeads (read .R) (read .good);
+    })
+
+-- the words of rules within the limits are accepted
+pub within-accepted : (N : ℕ) (R : List Rule) → Within N R → AcceptedTable N (wordsOf R)
+unfolding tableCheck
+within-accepted N R w =
+    ap₂ (λ (b b′ : Bool). asking b too-many-atoms (asking b′ table-too-long (walk N noHeads Head 0 (wordsOf R))))
+    (le-leb N 512 (w .at-most-512)) (le-leb (length (wordsOf R)) 8192 (w .at-most-8192))
+    ∙ accept-records N noHeads R 0 (good-of N noHeads R (w .heads-below) (w .distinct-heads) (w .each-body) (λ ρ m. refl))
+
+pub accepted-one-rule : (N : ℕ) (t : List ℕ) → AcceptedTable N t → OneRulePerHead (rulesOf t)
+accepted-one-rule N t a = distinct-one-rule (rulesOf t) (accepted-within N t a .distinct-heads)
+
+pub accepted-heads : (N : ℕ) (t : List ℕ) → AcceptedTable N t → HeadsBelow N (rulesOf t)
+accepted-heads N t a = accepted-within N t a .heads-below
+
+pub accepted-literals : (N : ℕ) (t : List ℕ) → AcceptedTable N t → (ρ : Rule) (β : List ℕ) (l : ℕ) → ρ ∈ rulesOf t → β ∈ ρ .groups → l ∈ β → l < 2 * N
+accepted-literals N t a ρ β l m m′ m″ = accepted-within N t a .each-body ρ m .each-group β m′ .literals-below l m″
+
+-- the empty table is accepted for every allowed N
+pub empty-accepted : (N : ℕ) → N ≤ 512 → AcceptedTable N []
+unfolding tableCheck walk
+empty-accepted N h = ap (λ (b : Bool). asking b too-many-atoms Accepted) (le-leb N 512 h)
+
+-- two answers that the promise of the check allows are equal
+pub check-determined : (N : ℕ) (t : List ℕ) (r r′ : Checked) → r ≡ tableCheck N t → r′ ≡ tableCheck N t → r ≡ r′
+check-determined N t r r′ e e′ = e ∙ sym e′

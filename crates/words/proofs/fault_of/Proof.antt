@@ -1,0 +1,57 @@
+use mathlib.Core.Path.{sym}
+use borrow.Author.Needs.{needs}
+use Rattle.words.proofs.fault_of.Statement.{statement}
+use Rattle.words.proofs.fault_of.Tie as tie
+
+enum-told : tie.Need-enum-told
+enum-told c = search needs
+
+head-fault-requires : tie.Need-head-fault-requires
+head-fault-requires c κs = search needs
+
+enum-told-2 : tie.Need-enum-told-2
+enum-told-2 c = search needs
+
+length-fault-requires : tie.Need-length-fault-requires
+length-fault-requires c κs = search needs
+
+enum-told-3 : tie.Need-enum-told-3
+enum-told-3 c = search needs
+
+length-fault-requires-2 : tie.Need-length-fault-requires-2
+length-fault-requires-2 c κs = search needs
+
+enum-told-4 : tie.Need-enum-told-4
+enum-told-4 c = search needs
+
+literal-fault-requires : tie.Need-literal-fault-requires
+literal-fault-requires c κs = search needs
+
+returns : tie.Need-returns
+returns c = simp (c .before .enum-told .given .1, sym (c .head-fault .ensures))
+
+returns-2 : tie.Need-returns-2
+returns-2 c = simp (c .before .enum-told2 .given .1, sym (c .length-fault .ensures))
+
+returns-3 : tie.Need-returns-3
+returns-3 c = simp (c .before .enum-told3 .given .1, sym (c .length-fault2 .ensures))
+
+returns-4 : tie.Need-returns-4
+returns-4 c = simp (c .before .enum-told4 .given .1, sym (c .literal-fault .ensures))
+
+pub fault-of-spec : {M : Type 1} → statement M
+fault-of-spec =
+    tie.close
+    (tie.spec
+    enum-told
+    head-fault-requires
+    enum-told-2
+    length-fault-requires
+    enum-told-3
+    length-fault-requires-2
+    enum-told-4
+    literal-fault-requires
+    returns
+    returns-2
+    returns-3
+    returns-4)

@@ -1,0 +1,88 @@
+-- Document 01, the refusals of a table check: 1, 2, then words left to right, and the first faulty word decides.
+use mathlib.Core.List.{List, [], _∷_}
+use mathlib.Core.Path.{_≡_}
+use mathlib.Core.Bool.{Bool, true, false, not}
+use Prim.Native.Nat.{ℕ, zero, suc, _*_}
+use lib.Dec.{leb, ltb}
+use lib.ListN.{length}
+use Rattle.refusal.specs.declared.Refusal.{Refusal}
+use Rattle.refusal.specs.Numbers.{too-many-atoms, table-too-long, cut-short, not-a-literal, wrong-length, second-rule}
+use Rattle.bits.specs.Sets.{_with_}
+use Rattle.words.specs.declared.Checked.{Checked}
+use Rattle.words.specs.declared.Checked.the-variants.{Accepted, Refused}
+use Rattle.words.specs.declared.Due.{Due}
+use Rattle.words.specs.declared.Due.the-variants.{Head, Count, Size, Literal}
+
+-- go on where the test passes, refuse where it fails
+abbrev pub asking : Bool → Refusal → Checked → Checked
+asking true r rest = rest
+asking false r rest = Refused r
+
+-- a fault decides; without one the rest does
+abbrev pub orElse : Checked → Checked → Checked
+orElse Accepted rest = rest
+orElse (Refused r) rest = Refused r
+
+-- a literal code below 2N
+abbrev pub literalFault : ℕ → ℕ → ℕ → Checked
+literalFault N p w = asking (ltb w (2 * N)) (not-a-literal p) Accepted
+
+-- a number of groups or a length: at most 64, and not below the least
+abbrev pub lengthFault : ℕ → ℕ → ℕ → Checked
+lengthFault least p w = asking (leb least w) (wrong-length p) (asking (leb w 64) (wrong-length p) Accepted)
+
+-- the fault of a word at place p, by what is due there; `seen` are the heads before it
+abbrev pub fault : ℕ → (ℕ → Bool) → Due → ℕ → ℕ → Checked
+fault N seen Head p w = orElse (literalFault N p w) (asking (not (seen w)) (second-rule p) Accepted)
+fault N seen Count p w = lengthFault 0 p w
+fault N seen (Size g) p w = lengthFault 1 p w
+fault N seen (Literal k g) p w = literalFault N p w
+
+-- g groups are to come: the length of the first is due, or the next head
+abbrev pub groupsDue : ℕ → Due
+groupsDue zero = Head
+groupsDue (suc g) = Size g
+
+-- k literals of a group are to come, and g groups after it
+abbrev pub literalsDue : ℕ → ℕ → Due
+literalsDue zero g = groupsDue g
+literalsDue (suc k) g = Literal k g
+
+-- what is due after a word
+abbrev pub next : Due → ℕ → Due
+next Head w = Count
+next Count m = groupsDue m
+next (Size g) k = literalsDue k g
+next (Literal k g) w = literalsDue k g
+
+-- the heads seen after a word
+abbrev pub seenAfter : Due → (ℕ → Bool) → ℕ → ℕ → Bool
+seenAfter Head seen w = seen with w
+seenAfter Count seen w = seen
+seenAfter (Size g) seen w = seen
+seenAfter (Literal k g) seen w = seen
+
+-- the words end, so many of them: between two records, or inside one
+abbrev pub ended : Due → ℕ → Checked
+ended Head words = Accepted
+ended Count words = Refused (cut-short words)
+ended (Size g) words = Refused (cut-short words)
+ended (Literal k g) words = Refused (cut-short words)
+
+-- words left to right from place p: the first faulty one decides
+unfoldable pub walk : ℕ → (ℕ → Bool) → Due → ℕ → List ℕ → Checked
+walk N seen due p [] = ended due p
+walk N seen due p (w ∷ t) = orElse (fault N seen due p w) (walk N (seenAfter due seen w) (next due w) (suc p) t)
+
+-- no head before the first word
+abbrev pub noHeads : ℕ → Bool
+noHeads w = false
+
+-- the table check: N above 512, table above 8,192 words, then the words
+unfoldable pub tableCheck : ℕ → List ℕ → Checked
+tableCheck N t =
+    asking (leb N 512) too-many-atoms (asking (leb (length t) 8192) table-too-long (walk N noHeads Head 0 t))
+
+-- the check accepts the table
+abbrev pub AcceptedTable : ℕ → List ℕ → Type 0
+AcceptedTable N t = tableCheck N t ≡ Accepted

@@ -1,0 +1,49 @@
+-- Document 01, "Word table": how records lie in the words. Nothing else in the project knows it.
+-- W2's line number after the head: recordWords writes it, rulesWithin passes over it, and Check.antt has one Due more.
+-- W10's IN words are literals of their own: Check.antt's literal fault, and nothing here.
+-- W13's brackets count as one in k: groupWords and takeGroup, and Check.antt's Due of what stands inside a bracket.
+use mathlib.Core.List.{List, [], _∷_, _++_}
+use Prim.Native.Nat.{ℕ, zero, suc}
+use lib.ListN.{length, take, drop}
+use Rattle.paper.specs.Rules.{Rule}
+
+-- a group: its length k and k literal codes
+abbrev pub groupWords : List ℕ → List ℕ
+groupWords β = length β ∷ β
+
+-- groups one after the other
+unfoldable pub groupsWords : List (List ℕ) → List ℕ
+groupsWords [] = []
+groupsWords (β ∷ βs) = groupWords β ++ groupsWords βs
+
+-- a record: head code, number of groups m, the groups
+abbrev pub recordWords : Rule → List ℕ
+recordWords ρ = ρ .head ∷ length (ρ .groups) ∷ groupsWords (ρ .groups)
+
+-- records back to back
+unfoldable pub wordsOf : List Rule → List ℕ
+wordsOf [] = []
+wordsOf (ρ ∷ R) = recordWords ρ ++ wordsOf R
+
+-- m groups at the front of the words
+unfoldable pub takeGroups : ℕ → List ℕ → List (List ℕ)
+takeGroups zero t = []
+takeGroups (suc m) [] = []
+takeGroups (suc m) (k ∷ t) = take k t ∷ takeGroups m (drop k t)
+
+-- the words after m groups
+unfoldable pub dropGroups : ℕ → List ℕ → List ℕ
+dropGroups zero t = t
+dropGroups (suc m) [] = []
+dropGroups (suc m) (k ∷ t) = dropGroups m (drop k t)
+
+-- the rules of at most n records at the front of the words
+unfoldable pub rulesWithin : ℕ → List ℕ → List Rule
+rulesWithin zero t = []
+rulesWithin (suc n) [] = []
+rulesWithin (suc n) (h ∷ []) = []
+rulesWithin (suc n) (h ∷ m ∷ t) = record { head = h; groups = takeGroups m t } ∷ rulesWithin n (dropGroups m t)
+
+-- the rules of a table; a table has no more records than words
+unfoldable pub rulesOf : List ℕ → List Rule
+rulesOf t = rulesWithin (length t) t

@@ -1,0 +1,178 @@
+use refusal::Refusal;
+ghost use mathlib.Core.Path.{_≡_};
+ghost use Prim.Native.Nat.{_<_, _≤_};
+ghost use lib.ListN.{length, getD};
+ghost use Rattle.bits.specs.Sets.{member};
+ghost use Rattle.refusal.specs.Numbers.{refusal};
+ghost use Rattle.words.specs.Flags.{noted};
+ghost use Rattle.words.specs.Check.{fault, literalFault, lengthFault, groupsDue, literalsDue, next, ended, noHeads, walk, tableCheck};
+
+// The answer of a check.
+pub enum Checked {
+    Accepted,
+    Refused(Refusal),
+}
+
+// What the next word is. A length or a literal says how many groups come after its own, a literal how many after it in its group.
+pub enum Due {
+    Head,
+    Count,
+    Size(usize),
+    Literal(usize, usize),
+}
+
+// The word at `i`, 0 past the end.
+pub fn word(table: &[u16], i: usize) -> usize
+    ensures { λ r. ⌜ r ≡ getD (now (table .entry)) i 0 ⌝ }
+    ensures { λ r. ⌜ r < 65536 ⌝ }
+{
+    if i < table.len() {
+        table[i] as usize
+    } else {
+        0
+    }
+}
+
+fn refused(number: u64, at: usize) -> Checked
+    ensures { λ r. ⌜ r ≡ Checked.Refused (refusal number at) ⌝ }
+{
+    Checked::Refused(Refusal {
+        number,
+        place: at as u64,
+    })
+}
+
+fn literal_fault(n: usize, at: usize, w: usize) -> Checked
+    requires { ⌜ n ≤ 512 ⌝ }
+    ensures { λ r. ⌜ r ≡ literalFault n at w ⌝ }
+{
+    if w < 2 * n {
+        Checked::Accepted
+    } else {
+        refused(refusal::NOT_A_LITERAL, at)
+    }
+}
+
+fn head_fault(n: usize, seen: &[u64], at: usize, w: usize) -> Checked
+    requires { ⌜ n ≤ 512 ⌝ }
+    ensures { λ r. ⌜ r ≡ fault n (member (now (seen .entry))) Due.Head at w ⌝ }
+{
+    if w < 2 * n {
+        if bits::has(seen, w) {
+            refused(refusal::SECOND_RULE, at)
+        } else {
+            Checked::Accepted
+        }
+    } else {
+        refused(refusal::NOT_A_LITERAL, at)
+    }
+}
+
+fn length_fault(least: usize, at: usize, w: usize) -> Checked
+    ensures { λ r. ⌜ r ≡ lengthFault least at w ⌝ }
+{
+    if w < least {
+        return refused(refusal::WRONG_LENGTH, at);
+    }
+    if 64 < w {
+        return refused(refusal::WRONG_LENGTH, at);
+    }
+    Checked::Accepted
+}
+
+// The fault of the word at `at`, or none.
+fn fault_of(n: usize, seen: &[u64], due: Due, at: usize, w: usize) -> Checked
+    requires { ⌜ n ≤ 512 ⌝ }
+    ensures { λ r. ⌜ r ≡ fault n (member (now (seen .entry))) due at w ⌝ }
+{
+    match due {
+        Due::Head => head_fault(n, seen, at, w),
+        Due::Count => length_fault(0, at, w),
+        Due::Size(_) => length_fault(1, at, w),
+        Due::Literal(_, _) => literal_fault(n, at, w),
+    }
+}
+
+fn groups_due(g: usize) -> Due
+    ensures { λ r. ⌜ r ≡ groupsDue g ⌝ }
+{
+    if g == 0 { Due::Head } else { Due::Size(g - 1) }
+}
+
+fn literals_due(k: usize, g: usize) -> Due
+    ensures { λ r. ⌜ r ≡ literalsDue k g ⌝ }
+{
+    if k == 0 {
+        groups_due(g)
+    } else {
+        Due::Literal(k - 1, g)
+    }
+}
+
+// What is due after the word `w`.
+fn next_due(due: Due, w: usize) -> Due
+    ensures { λ r. ⌜ r ≡ next due w ⌝ }
+{
+    match due {
+        Due::Head => Due::Count,
+        Due::Count => groups_due(w),
+        Due::Size(g) => literals_due(w, g),
+        Due::Literal(k, g) => literals_due(k, g),
+    }
+}
+
+// A head is seen; no other word is.
+fn note(seen: &mut [u64], due: Due, w: usize)
+    ensures { λ _. ⌜ now (seen .exit) ≡ noted due (now (seen .entry)) w ⌝ }
+{
+    match due {
+        Due::Head => bits::put(seen, w),
+        Due::Count => {}
+        Due::Size(_) => {}
+        Due::Literal(_, _) => {}
+    }
+}
+
+fn ended_at(due: Due, at: usize) -> Checked
+    ensures { λ r. ⌜ r ≡ ended due at ⌝ }
+{
+    match due {
+        Due::Head => Checked::Accepted,
+        Due::Count => refused(refusal::CUT_SHORT, at),
+        Due::Size(_) => refused(refusal::CUT_SHORT, at),
+        Due::Literal(_, _) => refused(refusal::CUT_SHORT, at),
+    }
+}
+
+// The words from left to right: the first faulty one decides.
+fn walk_words(n: usize, table: &[u16]) -> Checked
+    requires { ⌜ n ≤ 512 ⌝ }
+    ensures { λ r. ⌜ r ≡ walk n noHeads Due.Head 0 (now (table .entry)) ⌝ }
+{
+    let mut seen = [0u64; 16];
+    let mut due = Due::Head;
+    let mut i: usize = 0;
+    while i < table.len() {
+        let w = word(table, i);
+        if let Checked::Refused(r) = fault_of(n, &seen, due, i, w) {
+            return Checked::Refused(r);
+        }
+        note(&mut seen, due, w);
+        due = next_due(due, w);
+        i += 1;
+    }
+    ended_at(due, i)
+}
+
+// Is this a table for `n` atoms?
+pub fn check(n: u64, table: &[u16]) -> Checked
+    ensures { λ r. ⌜ r ≡ tableCheck n (now (table .entry)) ⌝ }
+{
+    if 512 < n {
+        return refused(refusal::TOO_MANY_ATOMS, 0);
+    }
+    if 8192 < table.len() {
+        return refused(refusal::TABLE_TOO_LONG, 0);
+    }
+    walk_words(n as usize, table)
+}
