@@ -11,10 +11,12 @@ use Rattle.paper.proofs.Leasts.{mark-⊆}
 
 -- equal sets below N have equal counts
 pub count-≡ : (N : ℕ) (S S′ : ℕ → Bool) → ((a : ℕ) → a < N → S a ≡ S′ a) → count N S ≡ count N S′
+unfolding count
 count-≡ zero S S′ f = refl
 count-≡ (suc n) S S′ f = rw (f n (omega arith), count-≡ n S S′ (λ a h. f a (omega arith)))
 
 pub count≤ : (N : ℕ) (S : ℕ → Bool) → count N S ≤ N
+unfolding count
 count≤ zero S = omega arith
 count≤ (suc n) S = go (S n) (count≤ n S)
   where
@@ -24,11 +26,13 @@ count≤ (suc n) S = go (S n) (count≤ n S)
 
 -- no members
 pub count-none : (N : ℕ) (S : ℕ → Bool) → ((a : ℕ) → a < N → T (not (S a))) → count N S ≡ 0
+unfolding count
 count-none zero S f = refl
 count-none (suc n) S f = rw (not→false (S n) (f n (omega arith))) (count-none n S (λ a h. f a (omega arith)))
 
 -- as many as there are: all
 pub count-full : (N : ℕ) (S : ℕ → Bool) → N ≤ count N S → (a : ℕ) → a < N → T (S a)
+unfolding count
 count-full zero S h a lt = absurd (omega arith)
 count-full (suc n) S h a lt = go (S n) refl h (λ k b l. count-full n S k b l)
   where
@@ -48,6 +52,7 @@ count-mark-above N S a h =
 
 -- one more member
 pub count-mark : (N : ℕ) (S : ℕ → Bool) (a : ℕ) → a < N → Unmarked S a → count N (mark S a) ≡ suc (count N S)
+unfolding count
 count-mark zero S a h u = absurd (omega arith)
 count-mark (suc n) S a h u = go (either (eqb n a)) (λ lt. count-mark n S a lt u)
   where
@@ -67,6 +72,7 @@ count-mark (suc n) S a h u = go (either (eqb n a)) (λ lt. count-mark n S a lt u
 
 -- more members, no smaller count
 pub count-mono : (N : ℕ) (S S′ : ℕ → Bool) → ((a : ℕ) → a < N → T (S a) → T (S′ a)) → count N S ≤ count N S′
+unfolding count
 count-mono zero S S′ f = omega arith
 count-mono (suc n) S S′ f = go (S n) (S′ n) (f n (omega arith)) (count-mono n S S′ (λ a h. f a (omega arith)))
   where

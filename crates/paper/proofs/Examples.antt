@@ -80,7 +80,7 @@ each : {A : Type 0} (P : A → Type 0) {x : A} {l : List A} → P x → ((y : A)
 each P h f y m = ⊎-elim (λ e. subst⁻¹ P e h) (λ k. f y k) (List·Memᴰ·cases-cons m)
 
 pub all-say : (e : Example) → e ∈ examples → Says e
-unfolding atomsOf
+unfolding atomsOf count
 all-say =
     each Says (says P1 tt tt refl refl) (each Says (says P2 tt tt refl refl) (each Says (says P3 tt tt refl refl)
     (each Says (says P4 tt tt refl refl) (each Says (says P5 tt tt refl refl) (each Says (says P6 tt tt refl refl)

@@ -62,6 +62,10 @@ pub data Marking (R : List Rule) : ℕ → Marks → Type 0 where
 abbrev pub IsHeld : List Rule → Marks → Interpretation → Type 0
 IsHeld R A I = (l : ℕ) → T (I l) ↔ Held R A l
 
+-- I is the set of the clean literals
+abbrev pub IsClean : List Rule → Marks → Interpretation → Type 0
+IsClean R A I = (l : ℕ) → T (I l) ↔ Clean R A l
+
 -- i if marked; otherwise t if the positive literal is held, f if the negative one is, u if neither
 abbrev pub byMarkAndHeld : Bool → Bool → Bool → Value
 byMarkAndHeld true p n = 𝐢
@@ -74,7 +78,7 @@ abbrev pub settledValue : Marks → Interpretation → ℕ → Value
 settledValue A I a = byMarkAndHeld (A a) (I (positive a)) (I (negative a))
 
 -- how many of the first N are in a set of atoms
-abbrev pub count : ℕ → (ℕ → Bool) → ℕ
+unfoldable pub count : ℕ → (ℕ → Bool) → ℕ
 count zero S = 0
 count (suc n) S = cond (S n) (suc (count n S)) (count n S)
 

@@ -3,8 +3,8 @@
 -- W10's IN words are literals of their own: Check.antt's literal fault, and nothing here.
 -- W13's brackets count as one in k: groupWords and takeGroup, and Check.antt's Due of what stands inside a bracket.
 use mathlib.Core.List.{List, [], _∷_, _++_}
-use Prim.Native.Nat.{ℕ, zero, suc}
-use lib.ListN.{length, take, drop}
+use Prim.Native.Nat.{ℕ, zero, suc, _+_}
+use lib.ListN.{length, getD, take, drop}
 use Rattle.paper.specs.Rules.{Rule}
 
 -- a group: its length k and k literal codes
@@ -47,3 +47,11 @@ rulesWithin (suc n) (h ∷ m ∷ t) = record { head = h; groups = takeGroups m t
 -- the rules of a table; a table has no more records than words
 unfoldable pub rulesOf : List ℕ → List Rule
 rulesOf t = rulesWithin (length t) t
+
+-- the rule of the record at place i
+abbrev pub ruleAt : List ℕ → ℕ → Rule
+ruleAt t i = record { head = getD t i 0; groups = takeGroups (getD t (i + 1) 0) (drop (i + 2) t) }
+
+-- the words after the record at place i
+abbrev pub afterRecord : List ℕ → ℕ → List ℕ
+afterRecord t i = dropGroups (getD t (i + 1) 0) (drop (i + 2) t)

@@ -21,6 +21,11 @@ pub enum Due {
     Literal(usize, usize),
 }
 
+// A record: its head, then the number of its groups, then its groups.
+pub const GROUPS: usize = 1;
+
+pub const BODY: usize = 2;
+
 // The word at `i`, 0 past the end.
 pub fn word(table: &[u16], i: usize) -> usize
     ensures { λ r. ⌜ r ≡ getD (now (table .entry)) i 0 ⌝ }

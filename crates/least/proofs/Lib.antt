@@ -1,0 +1,4 @@
+pub mod Walk
+pub mod Passing
+pub mod Fixed
+pub mod Marked

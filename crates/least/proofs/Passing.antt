@@ -1,0 +1,199 @@
+-- A record passed, a pass over all of them. Assumes nothing.
+use mathlib.Core.Bool.{Bool, true, false, not, cond, _&&_, _||_}
+use mathlib.Core.List.{List, [], _∷_, _++_, List·Memᴰ·head, List·Memᴰ·tail}
+use mathlib.Core.Path.{_≡_, refl, sym, ap, ap₂, _∙_, subst, subst⁻¹}
+use Prim.Native.Nat.{ℕ, zero, suc, _+_, _-_, _*_, _/_, _≤_, _<_}
+use native.Mathlib.Omega.{arith}
+use lib.Dec.{T, eqb}
+use lib.ListN.{length, getD, take, drop, length-drop, length-append}
+use lib.Seq.{take-append-seam, drop-append-seam}
+use Rattle.paper.specs.Rules.{Rule, HeadsBelow, _∈_}
+use Rattle.paper.specs.Marking.{Marks, mark, count}
+use Rattle.paper.proofs.Closure.{wholly, someWholly, noGroups, fires}
+use Rattle.paper.proofs.Counting.{count-mark}
+use Rattle.paper.proofs.Tests.{false→not}
+use Rattle.bits.specs.Sets.{member, putIn}
+use Rattle.bits.proofs.Laws.{member-putIn, length-putIn}
+use Rattle.words.specs.Layout.{takeGroups, dropGroups, groupsWords, wordsOf, rulesOf, ruleAt, afterRecord}
+use Rattle.words.proofs.Places.{RecordAt, record-at, some-record}
+use Rattle.words.proofs.Reading.{takeGroups-groupsWords, dropGroups-groupsWords, rulesOf-wordsOf}
+use Rattle.least.specs.Walk.{WholeGroups, BodyRead, DecidedHead}
+use Rattle.least.specs.Passing.{skips, adds, stepped, passed, Decided, Records, Moved, Passed}
+
+-- no groups, told by their number
+length-takeGroups : (m : ℕ) (ws : List ℕ) → WholeGroups m ws → length (takeGroups m ws) ≡ m
+unfolding WholeGroups takeGroups
+length-takeGroups zero ws h = refl
+length-takeGroups (suc m) [] h = absurd h
+length-takeGroups (suc m) (k ∷ ws) h = ap suc (length-takeGroups m (drop k ws) (h .1))
+
+noGroups-is : (βs : List (List ℕ)) → noGroups βs ≡ eqb (length βs) 0
+noGroups-is [] = refl
+noGroups-is (β ∷ βs) = sym (lib.Dec.eqb·suc-zero (length βs))
+
+pub decided-head : (S : ℕ → Bool) (t : List ℕ) (at head m : ℕ) (skip fired fires′ adding : Bool) (next : ℕ) → m ≡ getD t (at + 1) 0
+    → WholeGroups (getD t (at + 1) 0) (drop (at + 2) t) → fired ≡ (skip || eqb m 0) → BodyRead S t (at + 2) m fired fires′ next → adding ≡ (not skip && fires′)
+    → DecidedHead S t at head skip adding head next
+decided-head S t at head m skip fired fires′ adding next em w ef b ea =
+    record {
+      head-is = refl;
+      adds-is = ea ∙ adding-is skip refl;
+      after = b .after ∙ ap (λ (n : ℕ). dropGroups n (drop (at + 2) t)) em;
+      inside = b .inside;
+      further = b .not-before;
+    }
+  where
+    groups : List (List ℕ)
+    groups = takeGroups (getD t (at + 1) 0) (drop (at + 2) t)
+
+    facts : eqb m 0 ≡ noGroups groups
+    facts = ap (λ (n : ℕ). eqb n 0) (em ∙ sym (length-takeGroups (getD t (at + 1) 0) (drop (at + 2) t) w)) ∙ sym (noGroups-is groups)
+
+    adding-is : (s : Bool) → skip ≡ s → (not skip && fires′) ≡ (not skip && fires S (ruleAt t at))
+    adding-is true e = rw e
+    adding-is false e =
+        let f : fired ≡ noGroups groups = ef ∙ ap (λ (x : Bool). x || eqb m 0) e ∙ facts in
+        rw e (b .fires-is ∙ ap₂ (λ (x : Bool) (n : ℕ). x || someWholly S (takeGroups n (drop (at + 2) t))) f em)
+
+-- what the words at a record are
+whole-groups : (βs : List (List ℕ)) (rest : List ℕ) → WholeGroups (length βs) (groupsWords βs ++ rest)
+unfolding WholeGroups groupsWords
+whole-groups [] rest = tt
+whole-groups (β ∷ βs) rest =
+    let e = mathlib.Core.List.append-assoc β (groupsWords βs) rest in (
+      (let l = length-append β (groupsWords βs ++ rest) in rw e (omega arith)),
+      rw (e, drop-append-seam β (groupsWords βs ++ rest)) (whole-groups βs rest),
+    )
+
+-- the record at a place, and the records after it
+pub record Here (t : List ℕ) (at : ℕ) : Type 0 where
+  pub inside : at + 2 ≤ length t
+  pub whole : WholeGroups (getD t (at + 1) 0) (drop (at + 2) t)
+  pub rest : List Rule
+  pub rules : rulesOf (drop at t) ≡ ruleAt t at ∷ rest
+  pub after : afterRecord t at ≡ wordsOf rest
+
+pub here : (t : List ℕ) (at : ℕ) → at < length t → Records t at → Here t at
+here t at lt r =
+    let q = some-record t at (rulesOf (drop at t)) lt (r .words) in
+    let ρ : Rule = q .0 in
+    let R : List Rule = q .1 in
+    let e : drop at t ≡ wordsOf (ρ ∷ R) = r .words ∙ ap wordsOf (q .2) in
+    let p : RecordAt t at ρ R = record-at t at ρ R e in
+    let groups : takeGroups (getD t (at + 1) 0) (drop (at + 2) t) ≡ ρ .groups =
+    ap₂ takeGroups (p .count) (p .groups) ∙ takeGroups-groupsWords (ρ .groups) (wordsOf R)
+    in
+    record {
+      inside = omega (arith, p .inside);
+      whole = rw (p .count, p .groups) (whole-groups (ρ .groups) (wordsOf R));
+      rest = R;
+      rules = q .2 ∙ ap₂ (λ (h : ℕ) (βs : List (List ℕ)). record { head = h; groups = βs } ∷ R) (sym (p .head)) (sym groups);
+      after = ap₂ dropGroups (p .count) (p .groups) ∙ dropGroups-groupsWords (ρ .groups) (wordsOf R);
+    }
+
+-- the records after it stand at `next`
+next-rules : (t : List ℕ) (at next : ℕ) (h : Here t at) → drop next t ≡ afterRecord t at → rulesOf (drop next t) ≡ h .rest
+next-rules t at next h e = ap rulesOf (e ∙ h .after) ∙ rulesOf-wordsOf (h .rest)
+
+next-records : (t : List ℕ) (at next : ℕ) (h : Here t at) → Records t at → next ≤ length t → drop next t ≡ afterRecord t at → Records t next
+next-records t at next h r le e =
+    record {
+      inside = le;
+      words = e ∙ h .after ∙ sym (ap wordsOf (next-rules t at next h e));
+      heads = λ ρ m. r .heads ρ (rw (h .rules) (List·Memᴰ·tail (subst (λ (R : List Rule). ρ ∈ R) (next-rules t at next h e) m)));
+    }
+
+head-below : (t : List ℕ) (at : ℕ) (h : Here t at) → Records t at → getD t at 0 < 1024
+head-below t at h r = r .heads (ruleAt t at) (rw (h .rules) (List·Memᴰ·head refl))
+
+pass-there : (A : Marks) (S : ℕ → Bool) (t : List ℕ) (at next : ℕ) (h : Here t at) → drop next t ≡ afterRecord t at
+    → passed A (stepped A S (ruleAt t at)) (rulesOf (drop next t)) ≡ passed A S (rulesOf (drop at t))
+unfolding passed
+pass-there A S t at next h e = rw (next-rules t at next h e, h .rules)
+
+new-of : (a b c : Bool) → (not (a || b) && c) ≡ true → T (not a)
+new-of true b c e = absurd (mathlib.Core.Bool.false≢true e)
+new-of false b c e = tt
+
+pub moved-adding : (A : Marks) (t : List ℕ) (at : ℕ) (s : List ℕ) (adding : Bool) (head next : ℕ) (s′ : List ℕ) → length s ≡ 16 → at < length t → Records t at
+    → Decided A (member s) t at adding head next → adding ≡ true → s′ ≡ putIn s head → Moved A t at s next true s′
+unfolding stepped
+moved-adding A t at s adding head next s′ len lt r d ea es =
+    let h = here t at lt r in
+    let b : head < 64 * length s = (let k = head-below t at h r in let e = d .head-is in omega arith) in
+    let added : adds A (member s) (ruleAt t at) ≡ true = sym (d .adds-is) ∙ ea in
+    let m : member s′ ≡ mark (member s) head = ap member es ∙ member-putIn s head b in
+    record {
+      records = next-records t at next h r (d .inside) (d .after);
+      length-same = ap length es ∙ length-putIn s head;
+      pass-same = ap (λ (S : ℕ → Bool). passed A S (rulesOf (drop next t))) (m ∙ rw (added, d .head-is)) ∙ pass-there A (member s) t at next h (d .after);
+      unchanged = λ e. absurd (mathlib.Core.Bool.true≢false e);
+      grew = λ e.
+          let c : count 1024 (mark (member s) head) ≡ suc (count 1024 (member s)) = count-mark 1024 (member s) head (omega arith) (rw (d .head-is) (new-of (member s (getD t at 0)) (A (getD t at 0 / 2)) (fires (member s) (ruleAt t at)) added)) in
+          let c′ : count 1024 (member s′) ≡ count 1024 (mark (member s) head) = ap (count 1024) m in
+          omega arith;
+    }
+
+pub moved-leaving : (A : Marks) (t : List ℕ) (at : ℕ) (s : List ℕ) (adding : Bool) (head next : ℕ) → at < length t → Records t at
+    → Decided A (member s) t at adding head next → adding ≡ false → Moved A t at s next false s
+unfolding stepped
+moved-leaving A t at s adding head next lt r d ea =
+    let h = here t at lt r in
+    let left : adds A (member s) (ruleAt t at) ≡ false = sym (d .adds-is) ∙ ea in
+    record {
+      records = next-records t at next h r (d .inside) (d .after);
+      length-same = refl;
+      pass-same = ap (λ (S : ℕ → Bool). passed A S (rulesOf (drop next t))) (rw left) ∙ pass-there A (member s) t at next h (d .after);
+      unchanged = λ e. refl;
+      grew = λ e. absurd (mathlib.Core.Bool.false≢true e);
+    }
+
+pub decided-at : (A : Marks) (S : ℕ → Bool) (t : List ℕ) (at head : ℕ) (skip adding : Bool) (head′ next : ℕ) → head ≡ getD t at 0 → skip ≡ skips A S head
+    → DecidedHead S t at head skip adding head′ next → Decided A S t at adding head′ next
+decided-at A S t at head skip adding head′ next eh es d =
+    record {
+      head-is = d .head-is ∙ eh;
+      adds-is = d .adds-is ∙ ap (λ (b : Bool). not b && fires S (ruleAt t at)) (es ∙ ap (skips A S) eh);
+      after = d .after;
+      inside = d .inside;
+      further = d .further;
+    }
+
+records-nothing : (t : List ℕ) (at : ℕ) → length t ≤ at → rulesOf (drop at t) ≡ []
+records-nothing t at h = ap rulesOf (lib.ListN.drop-of-length-le t h) ∙ Rattle.words.proofs.Reading.rulesOf-nothing
+
+pub moved-start : (A : Marks) (t s : List ℕ) → Records t 0 → Moved A t 0 s 0 false s
+moved-start A t s r =
+    record { records = r; length-same = refl; pass-same = refl; unchanged = λ e. refl; grew = λ e. absurd (mathlib.Core.Bool.false≢true e) }
+
+pub moved-on : (A : Marks) (t : List ℕ) (at next : ℕ) (s s₁ s₂ : List ℕ) (c c′ : Bool) {c″ : Bool} → Moved A t 0 s at c s₁ → Moved A t at s₁ next c′ s₂ → c″ ≡ (c || c′)
+    → Moved A t 0 s next c″ s₂
+moved-on A t at next s s₁ s₂ c c′ {c″} m n e =
+    record {
+      records = n .records;
+      length-same = n .length-same ∙ m .length-same;
+      pass-same = n .pass-same ∙ m .pass-same;
+      unchanged = λ f. same c c′ refl refl (sym e ∙ f);
+      grew = λ f. more c c′ refl refl (sym e ∙ f);
+    }
+  where
+    same : (x y : Bool) → c ≡ x → c′ ≡ y → (x || y) ≡ false → member s₂ ≡ member s
+    same true y p q f = absurd (mathlib.Core.Bool.true≢false f)
+    same false true p q f = absurd (mathlib.Core.Bool.true≢false f)
+    same false false p q f = n .unchanged q ∙ m .unchanged p
+
+    more : (x y : Bool) → c ≡ x → c′ ≡ y → (x || y) ≡ true → count 1024 (member s) < count 1024 (member s₂)
+    more true true p q f = let a = m .grew p in let b = n .grew q in omega arith
+    more true false p q f = let a = m .grew p in let b = ap (count 1024) (n .unchanged q) in omega arith
+    more false true p q f = let b = n .grew q in let a = ap (count 1024) (m .unchanged p) in omega arith
+    more false false p q f = absurd (mathlib.Core.Bool.false≢true f)
+
+pub moved-all : (A : Marks) (t : List ℕ) (at : ℕ) (s s′ : List ℕ) (c : Bool) → length t ≤ at → Moved A t 0 s at c s′ → Passed A t s c s′
+unfolding passed
+moved-all A t at s s′ c h m =
+    record {
+      length-same = m .length-same;
+      all = sym (ap (passed A (member s′)) (records-nothing t at h)) ∙ m .pass-same;
+      unchanged = m .unchanged;
+      grew = m .grew;
+    }

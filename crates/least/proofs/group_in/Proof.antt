@@ -1,0 +1,70 @@
+use borrow.Author.Needs.{needs}
+use Prim.Native.Nat.{_≤_, _-_, _+_}
+use native.Mathlib.Omega.{arith}
+use native.Mathlib.Nat.{sub-zero, add-zero}
+use mathlib.Core.Path.{_≡_, refl, sym}
+use lib.ListN.{length, take, drop}
+use Rattle.bits.specs.Sets.{member}
+use Rattle.paper.proofs.Closure.{wholly}
+use Rattle.least.proofs.Walk.{group-goes-on, group-stops, group-ends}
+use Rattle.least.proofs.group_in.Statement.{statement}
+use Rattle.least.proofs.group_in.Tie as tie
+use Rattle.least.proofs.group_in.Reads as reads
+use Rattle.least.proofs.group_in.Lts as lts
+use Rattle.bits.proofs.has.Reads as has-reads
+use Rattle.words.proofs.word.Reads as word-reads
+
+abbrev Inv-loop : tie.InvT-loop
+Inv-loop table set at k i₀ i =
+    (i ≤ k) × (wholly (member set) (take (k - i) (drop (at + i) table)) ≡ wholly (member set) (take k (drop at table)))
+
+abbrev μ-loop : tie.MeasureT-loop
+μ-loop table set at k i₀ i =
+    k - i
+
+loop-holds : tie.Need-loop-holds Inv-loop μ-loop
+loop-holds c =
+    (omega arith, rw (sub-zero, add-zero))
+
+add-word : tie.Need-add-word Inv-loop μ-loop
+add-word c = search needs
+
+word-requires : tie.Need-word-requires Inv-loop μ-loop
+word-requires c κs = search needs
+
+has-requires : tie.Need-has-requires Inv-loop μ-loop
+has-requires c κs = search needs
+
+add-i : tie.Need-add-i Inv-loop μ-loop
+add-i c = search needs
+
+loop-less : tie.Need-loop-less Inv-loop μ-loop
+loop-less c = search needs
+
+loop-again : tie.Need-loop-again Inv-loop μ-loop
+loop-again c =
+    (omega arith, group-goes-on _ _ _ _ _ _ _ (c .before .before .before .before .before .before .before .pre) (c .before .before .before .loop-test .taken) (c .before .before .word .ensures .0) (c .before .has .ensures) (c .if1 .taken) (c .before .before .before .before .loop .inv .1))
+
+returns : tie.Need-returns Inv-loop μ-loop
+returns c =
+    group-stops _ _ _ _ _ _ _ (c .before .before .before .before .before .before .before .pre) (c .before .before .before .loop-test .taken) (c .before .before .word .ensures .0) (c .before .has .ensures) (c .if1 .left) (c .before .before .before .before .loop .inv .1)
+
+returns-2 : tie.Need-returns-2 Inv-loop μ-loop
+returns-2 c =
+    group-ends _ _ _ _ _ (c .loop-test .left) (c .before .loop .inv .1)
+
+pub group-in-spec : {M : Type 1} → statement M
+group-in-spec =
+    tie.close
+    (tie.spec
+    Inv-loop
+    μ-loop
+    loop-holds
+    add-word
+    word-requires
+    has-requires
+    add-i
+    loop-less
+    loop-again
+    returns
+    returns-2)
