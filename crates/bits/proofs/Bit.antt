@@ -1,15 +1,19 @@
 -- Laws about one bit of a number.
-use mathlib.Core.Path.{_≡_, refl, sym, ap, _∙_}
+use mathlib.Core.Path.{_≡_, refl, sym, ap, ap₂, _∙_}
 use mathlib.Core.Logic.{_≢_}
-use mathlib.Core.Bool.{true, false, _||_}
-use Prim.Native.Nat.{ℕ, zero, suc, _/_, _%_, _^_, _<_}
-use native.Mathlib.Nat.{zero-div, div-one, div-self, div-div-eq-div-mul, pow-succ', pow-suc, mul-mod-left, mul-div-cancel, zero-lt-suc, mod-lt}
+use mathlib.Core.Bool.{Bool, true, false, not, _||_}
+use Prim.Native.Nat.{ℕ, zero, suc, _+_, _*_, _/_, _%_, _^_, _<_}
+use native.Mathlib.Nat.{zero-div, div-one, div-self, div-div-eq-div-mul, pow-succ', pow-suc, mul-mod-left, mul-div-cancel, zero-lt-suc, mod-lt, one-mul, not-suc-le-zero}
 use native.Mathlib.Omega.{arith}
-use lib.Dec.{eqb}
-use lib.Pow.{pow-pos}
-use lib.Bits.{bitOr, or-shr, or-mod}
+use lib.Dec.{eqb, lit<}
+use lib.Arith.{lt-one}
+use lib.Count.{ones, trailingZeros, under, ones-step}
+use lib.Pow.{pow-pos, shl-exact}
+use lib.Bits.{bitOr, bitXor, or-shr, or-mod, xor-shr, xor-mod}
 use borrow.Author.Tests.{eqb-true}
+use Rattle.bits.specs.Counting.{oneIf, countBelow}
 use Rattle.bits.specs.Sets.{bit}
+use Rattle.bits.proofs.Counting.{countBelow-ext, countBelow-first}
 
 two-pos : 0 < 2
 two-pos = zero-lt-suc 1
@@ -68,3 +72,73 @@ same-bits (suc k) a b ha hb h =
     let top : a / 2 ≡ b / 2 = same-bits k (a / 2) (b / 2) (omega (arith, pow-suc 2 k)) (omega (arith, pow-suc 2 k)) (λ j l. sym (bit-next a j) ∙ h (suc j) (omega arith) ∙ bit-next b j) in
     let low : a % 2 ≡ b % 2 = same-digit (a % 2) (b % 2) (mod-lt a two-pos) (mod-lt b two-pos) (sym (bit-first a) ∙ h 0 (omega arith) ∙ bit-first b) in
     omega arith
+
+-- exactly one of the two
+abbrev pub differs : Bool → Bool → Bool
+differs true b = not b
+differs false b = b
+
+pub differs-false : (b : Bool) → differs b false ≡ b
+differs-false true = refl
+differs-false false = refl
+
+xor-digit : (x y : ℕ) → x < 2 → y < 2 → eqb (bitXor x y) 1 ≡ differs (eqb x 1) (eqb y 1)
+xor-digit zero zero hx hy = refl
+xor-digit zero (suc zero) hx hy = refl
+xor-digit (suc zero) zero hx hy = refl
+xor-digit (suc zero) (suc zero) hx hy = refl
+xor-digit zero (suc (suc y)) hx hy = absurd (omega arith)
+xor-digit (suc zero) (suc (suc y)) hx hy = absurd (omega arith)
+xor-digit (suc (suc x)) zero hx hy = absurd (omega arith)
+xor-digit (suc (suc x)) (suc y) hx hy = absurd (omega arith)
+
+pub bit-xor : (a b j : ℕ) → bit (bitXor a b) j ≡ differs (bit a j) (bit b j)
+bit-xor a b j =
+    ap (λ (x : ℕ). eqb x 1) (ap (λ (x : ℕ). x % 2) (xor-shr a b j) ∙ xor-mod (a / 2 ^ j) (b / 2 ^ j) 1)
+    ∙ xor-digit (a / 2 ^ j % 2) (b / 2 ^ j % 2) (mod-lt (a / 2 ^ j) two-pos) (mod-lt (b / 2 ^ j) two-pos)
+
+-- the shift of 1 by less than 64 loses nothing
+pub one-shifted : (i : ℕ) → (1 * 2 ^ (i % 64)) % 2 ^ 64 ≡ 2 ^ (i % 64)
+one-shifted i = shl-exact 1 (i % 64) 64 (lit< tt) (omega arith) ∙ one-mul (2 ^ (i % 64))
+
+oneIf-digit : (x : ℕ) → x < 2 → oneIf (eqb x 1) ≡ x
+oneIf-digit zero h = refl
+oneIf-digit (suc zero) h = refl
+oneIf-digit (suc (suc x)) h = absurd (omega arith)
+
+-- the ones of a number of k bits are its set bits
+pub ones-count : (k n : ℕ) → n < 2 ^ k → ones n ≡ countBelow k (bit n)
+unfolding ones countBelow
+ones-count zero n h = ap ones (lt-one h)
+ones-count (suc k) n h =
+    ones-step n
+    ∙ ap₂ _+_ (sym (ap oneIf (bit-first n) ∙ oneIf-digit (n % 2) (mod-lt n two-pos)))
+    (ones-count k (n / 2) (omega (arith, pow-suc 2 k)) ∙ countBelow-ext k (bit (n / 2)) (λ i. bit n (suc i)) (λ i l. sym (bit-next n i)))
+    ∙ sym (countBelow-first k (bit n))
+
+-- where the lowest one of a number stands
+pub record LowestBit (k n t : ℕ) : Type 0 where
+  pub below : t < k
+  pub one : bit n t ≡ true
+  pub zeros : (j : ℕ) → j < t → bit n j ≡ false
+
+pub lowest-bit : (k n : ℕ) → n < 2 ^ k → n ≢ 0 → LowestBit k n (trailingZeros k n)
+unfolding trailingZeros
+lowest-bit zero n h ne = absurd (ne (lt-one h))
+lowest-bit (suc k) n h ne = by (n % 2) refl (lowest-bit k (n / 2) (omega (arith, pow-suc 2 k)))
+  where
+    by : (d : ℕ) → n % 2 ≡ d → (n / 2 ≢ 0 → LowestBit k (n / 2) (trailingZeros k (n / 2))) → LowestBit (suc k) n (under d (trailingZeros k (n / 2)))
+    by zero e rest =
+        let up = rest (λ z. ne (omega arith)) in
+        record {
+          below = omega (arith, up .below);
+          one = bit-next n (trailingZeros k (n / 2)) ∙ up .one;
+          zeros = elim [ zero ↦ λ l. bit-first n ∙ ap (λ (x : ℕ). eqb x 1) e | suc j ↦ λ l. bit-next n j ∙ up .zeros j (omega arith) ];
+        }
+    by (suc d) e rest =
+        let one : n % 2 ≡ 1 = omega (arith, mod-lt n two-pos) in
+        record {
+          below = omega arith;
+          one = bit-first n ∙ ap (λ (x : ℕ). eqb x 1) one;
+          zeros = λ j l. absurd (not-suc-le-zero l);
+        }

@@ -67,6 +67,13 @@ countBelow-add n (suc m) p =
     let step : countBelow (n + suc m) p ≡ countBelow (n + m) p + oneIf (p (n + m)) = ap (λ (x : ℕ). countBelow x p) (add-suc n m) in
     omega (arith, countBelow-add n m p)
 
+-- numbers from n on that do not pass are not counted
+pub countBelow-cut : (n m : ℕ) (p : ℕ → Bool) → ((i : ℕ) → n ≤ i → i < n + m → p i ≡ false) → countBelow (n + m) p ≡ countBelow n p
+countBelow-cut n m p none =
+    countBelow-add n m p
+    ∙ ap (λ (x : ℕ). countBelow n p + x) (countBelow-none m (λ i. p (n + i)) (λ i h. none (n + i) (omega arith) (omega arith)))
+    ∙ add-zero (countBelow n p)
+
 -- 0, and the numbers above it
 pub countBelow-first : (n : ℕ) (p : ℕ → Bool) → countBelow (suc n) p ≡ oneIf (p 0) + countBelow n (λ i. p (suc i))
 unfolding countBelow
@@ -89,4 +96,37 @@ countBelow-one-more (suc n) i p q l hp hq h =
           let below = countBelow-one-more n i p q (omega arith) hp hq (λ j k d. h j (omega arith) d) in
           let same : oneIf (q n) ≡ oneIf (p n) = ap oneIf (h n (omega arith) ne) in
           omega arith
+    ]
+
+-- a weaker test that a further number passes counts more
+pub countBelow-more : (n i : ℕ) (p q : ℕ → Bool) → i < n → p i ≡ false → q i ≡ true
+    → ((j : ℕ) → j < n → T (p j) → T (q j)) → countBelow n p < countBelow n q
+unfolding countBelow
+countBelow-more zero i p q l hp hq h = absurd (not-suc-le-zero l)
+countBelow-more (suc n) i p q l hp hq h =
+    elim (ℕ-discrete n i) [
+      | yes e ↦
+          let below = countBelow-mono n p q (λ j k. h j (omega arith)) in
+          let before : oneIf (p n) ≡ 0 = ap (λ (x : ℕ). oneIf (p x)) e ∙ ap oneIf hp in
+          let after : oneIf (q n) ≡ 1 = ap (λ (x : ℕ). oneIf (q x)) e ∙ ap oneIf hq in
+          omega arith
+      | no ne ↦
+          let below = countBelow-more n i p q (omega arith) hp hq (λ j k. h j (omega arith)) in
+          omega (arith, oneIf-mono (p n) (q n) (h n (omega arith)))
+    ]
+
+oneIf-one : (b : Bool) → 1 ≤ oneIf b → b ≡ true
+oneIf-one true h = refl
+oneIf-one false h = absurd (not-suc-le-zero h)
+
+-- a full count: every number passes
+pub countBelow-full : (n : ℕ) (p : ℕ → Bool) → countBelow n p ≡ n → (i : ℕ) → i < n → p i ≡ true
+unfolding countBelow
+countBelow-full zero p e i h = absurd (not-suc-le-zero h)
+countBelow-full (suc n) p e i h =
+    let low = countBelow-le n p in
+    let high = oneIf-le (p n) in
+    elim (ℕ-discrete i n) [
+      | yes q ↦ ap p q ∙ oneIf-one (p n) (omega arith)
+      | no q ↦ countBelow-full n p (omega arith) i (omega arith)
     ]

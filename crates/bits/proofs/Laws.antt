@@ -2,18 +2,24 @@
 use mathlib.Core.Path.{_≡_, refl, sym, ap, ap₂, _∙_, subst, fun-ext}
 use mathlib.Core.Logic.{_≢_}
 use mathlib.Core.List.{List}
-use mathlib.Core.Bool.{Bool, true, false, cond, _||_, or-true, or-false}
-use Prim.Native.Nat.{ℕ, zero, suc, _+_, _*_, _/_, _%_, _^_, _<_, _≤_}
-use native.Mathlib.Nat.{mod-lt, zero-lt-suc}
+use mathlib.Core.Bool.{Bool, true, false, cond, _||_, or-true, or-false, true≢false}
+use Prim.Native.Nat.{ℕ, zero, suc, _+_, _*_, _/_, _%_, _^_, _-_, _<_, _≤_, zero-le}
+use native.Mathlib.Nat.{mod-lt, zero-lt-suc, mul-add}
 use native.Mathlib.Decide.{ℕ-discrete, decLt}
 use native.Mathlib.Omega.{arith}
+use lib.Count.{ones, trailingZeros}
 use lib.Pow.{pow-lt}
-use lib.Bits.{bitOr, or-lt}
+use lib.Bits.{bitOr, bitXor, or-lt, xor-lt}
 use lib.ListN.{length, getD, set, replicate, length-set, List·getD-eq-default}
 use lib.Seq.{getD-set-same, getD-set-other, set-out, ext-getD}
 use borrow.Author.Tests.{eq-eqb, ne-eqb}
-use Rattle.bits.specs.Sets.{bit, member, putIn, Words, _with_}
-use Rattle.bits.proofs.Bit.{bit-of-zero, bit-or, bit-pow-same, bit-pow-other, same-bits}
+use Rattle.bits.specs.Sets.{bit, member, changed, putIn, takenOut, Words, _with_, _without_, lowestBelow}
+use Rattle.bits.specs.declared.Found.the-variants.{At}
+use Rattle.bits.specs.Counting.{countBelow}
+use Rattle.bits.proofs.Counting.{countBelow-ext, countBelow-add, countBelow-cut}
+use Rattle.bits.proofs.Least.{lowestFrom-at}
+use Rattle.bits.proofs.Bit.{lowest-bit, ones-count}
+use Rattle.bits.proofs.Bit.{differs, differs-false, bit-of-zero, bit-or, bit-xor, bit-pow-same, bit-pow-other, same-bits}
 
 -- the word and the bit of an index tell the index
 same-index : (i j : ℕ) → i / 64 ≡ j / 64 → i % 64 ≡ j % 64 → i ≡ j
@@ -24,67 +30,158 @@ pub member-past : (s : List ℕ) (i : ℕ) → 64 * length s ≤ i → member s 
 unfolding member
 member-past s i h = ap (λ (w : ℕ). bit w (i % 64)) (List·getD-eq-default s 0 (omega arith)) ∙ bit-of-zero (i % 64)
 
+-- a member stands in some word
+pub inside : (s : List ℕ) (i : ℕ) → member s i ≡ true → i < 64 * length s
+inside s i e =
+    elim (decLt i (64 * length s)) [
+      | yes h ↦ h
+      | no h ↦ absurd (true≢false (sym e ∙ member-past s i (omega arith)))
+    ]
+
+-- the numbers of one word are its bits
+pub member-in-word : (s : List ℕ) (w j : ℕ) → j < 64 → member s (64 * w + j) ≡ bit (getD s w 0) j
+unfolding member
+member-in-word s w j h =
+    let q : (64 * w + j) / 64 ≡ w = omega arith in
+    let r : (64 * w + j) % 64 ≡ j = omega arith in
+    ap₂ (λ (x y : ℕ). bit (getD s x 0) y) q r
+
+-- a change of one word by an operation on bits: `on` says what it does to a bit, and leaves it where the other bit is not set
+module _ (f : ℕ → ℕ → ℕ) (on : Bool → Bool → Bool) (bits : (a b j : ℕ) → bit (f a b) j ≡ on (bit a j) (bit b j)) (keeps : (x : Bool) → on x false ≡ x) where
+  pub member-changed-same : (s : List ℕ) (i : ℕ) → i < 64 * length s → member (changed f s i) i ≡ on (member s i) true
+  unfolding member changed
+  member-changed-same s i h =
+      ap (λ (w : ℕ). bit w (i % 64)) (getD-set-same s (i / 64) (f (getD s (i / 64) 0) (2 ^ (i % 64))) 0 (omega arith))
+      ∙ bits (getD s (i / 64) 0) (2 ^ (i % 64)) (i % 64)
+      ∙ ap (on (bit (getD s (i / 64) 0) (i % 64))) (bit-pow-same (i % 64))
+
+  pub member-changed-other : (s : List ℕ) (i j : ℕ) → j ≢ i → member (changed f s i) j ≡ member s j
+  unfolding member changed
+  member-changed-other s i j ne =
+      let v = f (getD s (i / 64) 0) (2 ^ (i % 64)) in
+      elim (ℕ-discrete (j / 64) (i / 64)) [
+        | yes e ↦
+            elim (decLt (i / 64) (length s)) [
+              | yes l ↦
+                  ap (λ (w : ℕ). bit w (j % 64)) (ap (λ (x : ℕ). getD (set s (i / 64) v) x 0) e ∙ getD-set-same s (i / 64) v 0 l)
+                  ∙ bits (getD s (i / 64) 0) (2 ^ (i % 64)) (j % 64)
+                  ∙ ap (on (bit (getD s (i / 64) 0) (j % 64))) (bit-pow-other (i % 64) (j % 64) (λ q. ne (same-index j i e q)))
+                  ∙ keeps (bit (getD s (i / 64) 0) (j % 64))
+                  ∙ ap (λ (x : ℕ). bit (getD s x 0) (j % 64)) (sym e)
+              | no l ↦ ap (λ (t : List ℕ). bit (getD t (j / 64) 0) (j % 64)) (set-out s (i / 64) v (omega arith))
+            ]
+        | no d ↦ ap (λ (w : ℕ). bit w (j % 64)) (getD-set-other s (i / 64) (j / 64) v 0 d)
+      ]
+
+pub length-changed : (f : ℕ → ℕ → ℕ) (s : List ℕ) (i : ℕ) → length (changed f s i) ≡ length s
+unfolding changed
+length-changed f s i = length-set s (i / 64) (f (getD s (i / 64) 0) (2 ^ (i % 64)))
+
+pub changed-past : (f : ℕ → ℕ → ℕ) (s : List ℕ) (i : ℕ) → 64 * length s ≤ i → changed f s i ≡ s
+unfolding changed
+changed-past f s i h = set-out s (i / 64) (f (getD s (i / 64) 0) (2 ^ (i % 64))) (omega arith)
+
+words-changed : (f : ℕ → ℕ → ℕ) → ((a b : ℕ) → a < 2 ^ 64 → b < 2 ^ 64 → f a b < 2 ^ 64)
+    → (s : List ℕ) (i : ℕ) → Words s → Words (changed f s i)
+unfolding changed
+words-changed f fits s i h j =
+    let v = f (getD s (i / 64) 0) (2 ^ (i % 64)) in
+    elim (ℕ-discrete j (i / 64)) [
+      | yes e ↦
+          elim (decLt (i / 64) (length s)) [
+            | yes l ↦
+                subst (λ (x : ℕ). x < 2 ^ 64) (sym (ap (λ (x : ℕ). getD (set s (i / 64) v) x 0) e ∙ getD-set-same s (i / 64) v 0 l))
+                (fits (getD s (i / 64) 0) (2 ^ (i % 64)) (h (i / 64)) (pow-lt (mod-lt i (zero-lt-suc 63))))
+            | no l ↦ subst (λ (t : List ℕ). getD t j 0 < 2 ^ 64) (sym (set-out s (i / 64) v (omega arith))) (h j)
+          ]
+      | no d ↦ subst (λ (x : ℕ). x < 2 ^ 64) (sym (getD-set-other s (i / 64) j v 0 d)) (h j)
+    ]
+
+-- ---- one member more
+
 pub length-putIn : (s : List ℕ) (i : ℕ) → length (putIn s i) ≡ length s
-unfolding putIn
-length-putIn s i = length-set s (i / 64) (bitOr (getD s (i / 64) 0) (2 ^ (i % 64)))
+length-putIn = length-changed bitOr
 
 pub putIn-past : (s : List ℕ) (i : ℕ) → 64 * length s ≤ i → putIn s i ≡ s
-unfolding putIn
-putIn-past s i h = set-out s (i / 64) (bitOr (getD s (i / 64) 0) (2 ^ (i % 64))) (omega arith)
+putIn-past = changed-past bitOr
 
 pub member-putIn-same : (s : List ℕ) (i : ℕ) → i < 64 * length s → member (putIn s i) i ≡ true
-unfolding member putIn
-member-putIn-same s i h =
-    ap (λ (w : ℕ). bit w (i % 64)) (getD-set-same s (i / 64) (bitOr (getD s (i / 64) 0) (2 ^ (i % 64))) 0 (omega arith))
-    ∙ bit-or (getD s (i / 64) 0) (2 ^ (i % 64)) (i % 64)
-    ∙ ap (λ (b : Bool). bit (getD s (i / 64) 0) (i % 64) || b) (bit-pow-same (i % 64))
-    ∙ or-true (bit (getD s (i / 64) 0) (i % 64))
+member-putIn-same s i h = member-changed-same bitOr _||_ bit-or or-false s i h ∙ or-true (member s i)
 
 pub member-putIn-other : (s : List ℕ) (i j : ℕ) → j ≢ i → member (putIn s i) j ≡ member s j
-unfolding member putIn
-member-putIn-other s i j ne =
-    elim (ℕ-discrete (j / 64) (i / 64)) [
-      | yes e ↦ elim (decLt (i / 64) (length s)) [
-        | yes l ↦
-            ap (λ (w : ℕ). bit w (j % 64)) (ap (λ (x : ℕ). getD (set s (i / 64) (bitOr (getD s (i / 64) 0) (2 ^ (i % 64)))) x 0) e ∙ getD-set-same s (i / 64) (bitOr (getD s (i / 64) 0) (2 ^ (i % 64))) 0 l)
-            ∙ bit-or (getD s (i / 64) 0) (2 ^ (i % 64)) (j % 64)
-            ∙ ap (λ (b : Bool). bit (getD s (i / 64) 0) (j % 64) || b) (bit-pow-other (i % 64) (j % 64) (λ q. ne (same-index j i e q)))
-            ∙ or-false (bit (getD s (i / 64) 0) (j % 64))
-            ∙ ap (λ (x : ℕ). bit (getD s x 0) (j % 64)) (sym e)
-        | no l ↦ ap (λ (t : List ℕ). bit (getD t (j / 64) 0) (j % 64)) (set-out s (i / 64) (bitOr (getD s (i / 64) 0) (2 ^ (i % 64))) (omega arith))
-      ]
-      | no d ↦ ap (λ (w : ℕ). bit w (j % 64)) (getD-set-other s (i / 64) (j / 64) (bitOr (getD s (i / 64) 0) (2 ^ (i % 64))) 0 d)
-    ]
+member-putIn-other = member-changed-other bitOr _||_ bit-or or-false
 
 -- as a set: the members, and i besides
 pub member-putIn : (s : List ℕ) (i : ℕ) → i < 64 * length s → member (putIn s i) ≡ member s with i
-member-putIn s i h = fun-ext (λ j. elim (ℕ-discrete j i) [
-  | yes e ↦ ap (member (putIn s i)) e ∙ member-putIn-same s i h ∙ sym (ap (λ (b : Bool). cond b true (member s j)) (eq-eqb j i e))
-  | no ne ↦ member-putIn-other s i j ne ∙ sym (ap (λ (b : Bool). cond b true (member s j)) (ne-eqb j i ne))
-])
+member-putIn s i h =
+    fun-ext (λ j. elim (ℕ-discrete j i) [
+      | yes e ↦ ap (member (putIn s i)) e ∙ member-putIn-same s i h ∙ sym (ap (λ (b : Bool). cond b true (member s j)) (eq-eqb j i e))
+      | no ne ↦ member-putIn-other s i j ne ∙ sym (ap (λ (b : Bool). cond b true (member s j)) (ne-eqb j i ne))
+    ])
 
 pub words-putIn : (s : List ℕ) (i : ℕ) → Words s → Words (putIn s i)
-unfolding putIn
-words-putIn s i h j =
-    elim (ℕ-discrete j (i / 64)) [
-      | yes e ↦ elim (decLt (i / 64) (length s)) [
-        | yes l ↦
-            subst (λ (x : ℕ). x < 2 ^ 64) (sym (ap (λ (x : ℕ). getD (set s (i / 64) (bitOr (getD s (i / 64) 0) (2 ^ (i % 64)))) x 0) e ∙ getD-set-same s (i / 64) (bitOr (getD s (i / 64) 0) (2 ^ (i % 64))) 0 l))
-            (or-lt 64 (getD s (i / 64) 0) (2 ^ (i % 64)) (h (i / 64)) (pow-lt (mod-lt i (zero-lt-suc 63))))
-        | no l ↦ subst (λ (t : List ℕ). getD t j 0 < 2 ^ 64) (sym (set-out s (i / 64) (bitOr (getD s (i / 64) 0) (2 ^ (i % 64))) (omega arith))) (h j)
-      ]
-      | no d ↦ subst (λ (x : ℕ). x < 2 ^ 64) (sym (getD-set-other s (i / 64) j (bitOr (getD s (i / 64) 0) (2 ^ (i % 64))) 0 d)) (h j)
-    ]
+words-putIn = words-changed bitOr (or-lt 64)
+
+-- ---- one member less
+
+pub length-takenOut : (s : List ℕ) (i : ℕ) → length (takenOut s i) ≡ length s
+unfolding takenOut
+length-takenOut s i = by (member s i)
+  where
+    by : (b : Bool) → length (cond b (changed bitXor s i) s) ≡ length s
+    by true = length-changed bitXor s i
+    by false = refl
+
+-- a member's bit is changed
+pub takenOut-member : (s : List ℕ) (i : ℕ) → member s i ≡ true → changed bitXor s i ≡ takenOut s i
+unfolding takenOut
+takenOut-member s i e = sym (ap (λ (b : Bool). cond b (changed bitXor s i) s) e)
+
+-- what is no member is not touched
+pub takenOut-no-member : (s : List ℕ) (i : ℕ) → member s i ≡ false → s ≡ takenOut s i
+unfolding takenOut
+takenOut-no-member s i e = sym (ap (λ (b : Bool). cond b (changed bitXor s i) s) e)
+
+pub member-takenOut-same : (s : List ℕ) (i : ℕ) → member (takenOut s i) i ≡ false
+unfolding takenOut
+member-takenOut-same s i = by (member s i) refl
+  where
+    by : (b : Bool) → member s i ≡ b → member (cond b (changed bitXor s i) s) i ≡ false
+    by true e = member-changed-same bitXor differs bit-xor differs-false s i (inside s i e) ∙ ap (λ (b : Bool). differs b true) e
+    by false e = e
+
+pub member-takenOut-other : (s : List ℕ) (i j : ℕ) → j ≢ i → member (takenOut s i) j ≡ member s j
+unfolding takenOut
+member-takenOut-other s i j ne = by (member s i)
+  where
+    by : (b : Bool) → member (cond b (changed bitXor s i) s) j ≡ member s j
+    by true = member-changed-other bitXor differs bit-xor differs-false s i j ne
+    by false = refl
+
+-- as a set: the members but for i
+pub member-takenOut : (s : List ℕ) (i : ℕ) → member (takenOut s i) ≡ member s without i
+member-takenOut s i =
+    fun-ext (λ j. elim (ℕ-discrete j i) [
+      | yes e ↦ ap (member (takenOut s i)) e ∙ member-takenOut-same s i ∙ sym (ap (λ (b : Bool). cond b false (member s j)) (eq-eqb j i e))
+      | no ne ↦ member-takenOut-other s i j ne ∙ sym (ap (λ (b : Bool). cond b false (member s j)) (ne-eqb j i ne))
+    ])
+
+pub words-takenOut : (s : List ℕ) (i : ℕ) → Words s → Words (takenOut s i)
+unfolding takenOut
+words-takenOut s i h = by (member s i)
+  where
+    by : (b : Bool) → Words (cond b (changed bitXor s i) s)
+    by true = words-changed bitXor (xor-lt 64) s i h
+    by false = h
+
+-- ---- the whole row
 
 -- two rows of one length with the same members are equal
 pub same-members : (s t : List ℕ) → Words s → Words t → length s ≡ length t
     → ((i : ℕ) → member s i ≡ member t i) → s ≡ t
-unfolding member
 same-members s t hs ht e h =
-    ext-getD 0 s t e (λ w l. same-bits 64 (getD s w 0) (getD t w 0) (hs w) (ht w) (λ j b.
-    let q : (64 * w + j) / 64 ≡ w = omega arith in
-    let r : (64 * w + j) % 64 ≡ j = omega arith in
-    ap₂ (λ (x y : ℕ). bit (getD s x 0) y) (sym q) (sym r) ∙ h (64 * w + j) ∙ ap₂ (λ (x y : ℕ). bit (getD t x 0) y) q r))
+    ext-getD 0 s t e (λ w l. same-bits 64 (getD s w 0) (getD t w 0) (hs w) (ht w)
+    (λ j b. sym (member-in-word s w j b) ∙ h (64 * w + j) ∙ member-in-word t w j b))
 
 zeros : (n i : ℕ) → getD {A = ℕ} (replicate n 0) i 0 ≡ 0
 zeros zero i = refl
@@ -95,3 +192,59 @@ zeros (suc n) (suc i) = zeros n i
 pub member-of-zeros : (n i : ℕ) → member (replicate n 0) i ≡ false
 unfolding member
 member-of-zeros n i = ap (λ (w : ℕ). bit w (i % 64)) (zeros n (i / 64)) ∙ bit-of-zero (i % 64)
+
+-- ---- counting
+
+-- the ones of a row's words count its members
+pub count-word : (s : List ℕ) (w : ℕ) → getD s w 0 < 2 ^ 64
+    → countBelow (64 * (w + 1)) (member s) ≡ countBelow (64 * w) (member s) + ones (getD s w 0)
+count-word s w h =
+    ap (λ (n : ℕ). countBelow n (member s)) (mul-add 64 w 1)
+    ∙ countBelow-add (64 * w) 64 (member s)
+    ∙ ap (λ (x : ℕ). countBelow (64 * w) (member s) + x)
+    (countBelow-ext 64 (λ i. member s (64 * w + i)) (bit (getD s w 0)) (member-in-word s w) ∙ sym (ones-count 64 (getD s w 0) h))
+
+-- nothing past the last word is counted
+pub count-past : (s : List ℕ) (m : ℕ) → countBelow (64 * length s + m) (member s) ≡ countBelow (64 * length s) (member s)
+count-past s m = countBelow-cut (64 * length s) m (member s) (λ i h l. member-past s i h)
+
+-- ---- the lowest member
+
+-- a word without ones has no members
+pub none-in-zero : (s : List ℕ) (w : ℕ) → getD s w 0 ≡ 0 → ((j : ℕ) → j < 64 * w → member s j ≡ false)
+    → (j : ℕ) → j < 64 * (w + 1) → member s j ≡ false
+unfolding member
+none-in-zero s w e below j h =
+    elim (decLt j (64 * w)) [
+      | yes l ↦ below j l
+      | no l ↦
+          let q : j / 64 ≡ w = omega arith in
+          ap (λ (x : ℕ). bit x (j % 64)) (ap (λ (x : ℕ). getD s x 0) q ∙ e) ∙ bit-of-zero (j % 64)
+    ]
+
+-- the lowest one of the first word that has any
+pub lowest-in-word : (s : List ℕ) (n w : ℕ) → 64 * (w + 1) ≤ n → getD s w 0 < 2 ^ 64 → getD s w 0 ≢ 0
+    → ((j : ℕ) → j < 64 * w → member s j ≡ false) → At (64 * w + trailingZeros 64 (getD s w 0)) ≡ lowestBelow n (member s)
+lowest-in-word s n w room h ne below =
+    let x = getD s w 0 in
+    let low = lowest-bit 64 x h ne in
+    sym (lowestFrom-at n 0 (64 * w + trailingZeros 64 x) (member s) zero-le (omega (arith, low .below))
+    (member-in-word s w (trailingZeros 64 x) (low .below) ∙ low .one)
+    (λ j z l. elim (decLt j (64 * w)) [
+      | yes b ↦ below j b
+      | no b ↦
+          let q : 64 * w + (j - 64 * w) ≡ j = omega arith in
+          ap (member s) (sym q) ∙ member-in-word s w (j - 64 * w) (omega (arith, low .below)) ∙ low .zeros (j - 64 * w) (omega arith)
+    ]))
+
+-- ---- the turns of the two loops
+
+pub count-turn : (s : List ℕ) (w : ℕ) {n x : ℕ} → getD s w 0 < 2 ^ 64 → x ≡ getD s w 0 → n ≡ countBelow (64 * w) (member s)
+    → n + ones x ≡ countBelow (64 * (w + 1)) (member s)
+count-turn s w h e inv = ap₂ (λ (m y : ℕ). m + ones y) inv e ∙ sym (count-word s w h)
+
+pub lowest-turn : (s : List ℕ) (n w : ℕ) {x : ℕ} → 64 * (w + 1) ≤ n → getD s w 0 < 2 ^ 64 → x ≡ getD s w 0 → x ≢ 0
+    → ((j : ℕ) → j < 64 * w → member s j ≡ false) → At (64 * w + trailingZeros 64 x) ≡ lowestBelow n (member s)
+lowest-turn s n w room h e ne below =
+    ap (λ (y : ℕ). At (64 * w + trailingZeros 64 y)) e
+    ∙ lowest-in-word s n w room h (λ z. ne (e ∙ z)) below

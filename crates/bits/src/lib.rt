@@ -1,5 +1,14 @@
 ghost use mathlib.Core.Path.{_≡_};
-ghost use Rattle.bits.specs.Sets.{member, putIn};
+ghost use lib.Bits.{bitXor};
+ghost use lib.ListN.{getD};
+ghost use Rattle.bits.specs.Counting.{countBelow};
+ghost use Rattle.bits.specs.Sets.{changed, member, putIn, takenOut, lowestBelow};
+
+// A member that was looked for.
+pub enum Found {
+    At(usize),
+    Nothing,
+}
 
 // Is `i` in the set?
 pub fn has(set: &[u64], i: usize) -> bool
@@ -21,4 +30,58 @@ pub fn put(set: &mut [u64], i: usize)
     if w < set.len() {
         set[w] = set[w] | 1 << (i % 64);
     }
+}
+
+// Takes `i` out of the set.
+pub fn remove(set: &mut [u64], i: usize)
+    ensures { λ _. ⌜ now (set .exit) ≡ takenOut (now (set .entry)) i ⌝ }
+{
+    if has(set, i) {
+        flip(set, i);
+    }
+}
+
+// Changes bit `i`.
+fn flip(set: &mut [u64], i: usize)
+    ensures { λ _. ⌜ now (set .exit) ≡ changed bitXor (now (set .entry)) i ⌝ }
+{
+    let w = i / 64;
+    if w < set.len() {
+        set[w] = set[w] ^ 1 << (i % 64);
+    }
+}
+
+// The word at `w`, 0 past the end.
+fn word(set: &[u64], w: usize) -> u64
+    ensures { λ r. ⌜ r ≡ getD (now (set .entry)) w 0 ⌝ }
+{
+    if w < set.len() { set[w] } else { 0 }
+}
+
+// How many numbers below 1,024 are in the set.
+pub fn count(set: &[u64]) -> usize
+    ensures { λ r. ⌜ r ≡ countBelow 1024 (member (now (set .entry))) ⌝ }
+{
+    let mut n: usize = 0;
+    let mut w: usize = 0;
+    while w < 16 {
+        n += u64::count_ones(word(set, w)) as usize;
+        w += 1;
+    }
+    n
+}
+
+// The lowest number below 1,024 that is in the set.
+pub fn lowest(set: &[u64]) -> Found
+    ensures { λ r. ⌜ r ≡ lowestBelow 1024 (member (now (set .entry))) ⌝ }
+{
+    let mut w: usize = 0;
+    while w < 16 {
+        let x = word(set, w);
+        if x != 0 {
+            return Found::At(64 * w + u64::trailing_zeros(x) as usize);
+        }
+        w += 1;
+    }
+    Found::Nothing
 }

@@ -1,7 +1,7 @@
 -- From rules within the limits to an accepted walk over their words.
 use mathlib.Core.Path.{_≡_, refl, ap, ap₂, _∙_}
 use mathlib.Core.List.{List, [], _∷_, _++_, append-assoc, List·Memᴰ·head, List·Memᴰ·tail}
-use mathlib.Core.Bool.{Bool, false, not}
+use mathlib.Core.Bool.{Bool, false, not, _&&_}
 use Prim.Native.Nat.{ℕ, suc, _*_, _≤_, _<_, zero-le}
 use lib.ListN.{length}
 use borrow.Author.Tests.{lt-ltb, le-leb}
@@ -22,7 +22,7 @@ literal-faultless N p w h = ap (λ (b : Bool). asking b (not-a-literal p) Accept
 
 length-faultless : (least p w : ℕ) → least ≤ w → w ≤ 64 → lengthFault least p w ≡ Accepted
 length-faultless least p w h h′ =
-    ap₂ (λ (b b′ : Bool). asking b (wrong-length p) (asking b′ (wrong-length p) Accepted)) (le-leb least w h) (le-leb w 64 h′)
+    ap₂ (λ (b b′ : Bool). asking (b && b′) (wrong-length p) Accepted) (le-leb least w h) (le-leb w 64 h′)
 
 head-faultless : (N : ℕ) (seen : ℕ → Bool) (p w : ℕ) → w < 2 * N → seen w ≡ false → fault N seen Head p w ≡ Accepted
 head-faultless N seen p w h e =

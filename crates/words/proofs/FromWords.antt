@@ -2,7 +2,7 @@
 use mathlib.Core.Path.{_≡_, refl, sym, ap, ap₂, _∙_, subst}
 use mathlib.Core.Logic.{⊎-elim}
 use mathlib.Core.List.{List, [], _∷_, _++_, append-assoc, List·Memᴰ·not-nil, List·Memᴰ·cases-cons}
-use mathlib.Core.Bool.{Bool, false, not}
+use mathlib.Core.Bool.{Bool, true, false, not, _&&_, true≢false}
 use Prim.Native.Nat.{ℕ, zero, suc, _*_, _≤_, _<_}
 use native.Mathlib.Nat.{not-suc-le-zero}
 use native.Mathlib.Omega.{arith}
@@ -10,7 +10,7 @@ use lib.Dec.{ltb, leb}
 use lib.ListN.{length, length-append}
 use borrow.Author.Tests.{ltb-true, leb-true, not-true}
 use Rattle.paper.specs.Rules.{Rule, _∈_}
-use Rattle.refusal.specs.Numbers.{cut-short, second-rule}
+use Rattle.refusal.specs.Numbers.{cut-short, wrong-length, second-rule}
 use Rattle.bits.specs.Sets.{_with_}
 use Rattle.words.specs.declared.Checked.the-variants.{Accepted}
 use Rattle.words.specs.declared.Due.the-variants.{Head, Count}
@@ -23,10 +23,14 @@ use Rattle.words.proofs.Good.{Good}
 literal-below : (N p w : ℕ) → literalFault N p w ≡ Accepted → w < 2 * N
 literal-below N p w e = ltb-true w (2 * N) (asking-accepted (ltb w (2 * N)) _ Accepted e .0)
 
+and-true-both : (a b : Bool) → (a && b) ≡ true → (a ≡ true) × (b ≡ true)
+and-true-both true b e = (refl, e)
+and-true-both false b e = absurd (true≢false (sym e))
+
 length-between : (least p w : ℕ) → lengthFault least p w ≡ Accepted → (least ≤ w) × (w ≤ 64)
 length-between least p w e =
-    let one = asking-accepted (leb least w) _ _ e in
-    (leb-true least w (one .0), leb-true w 64 (asking-accepted (leb w 64) _ Accepted (one .1) .0))
+    let both = and-true-both (leb least w) (leb w 64) (asking-accepted (leb least w && leb w 64) (wrong-length p) Accepted e .0) in
+    (leb-true least w (both .0), leb-true w 64 (both .1))
 
 head-unseen : (N : ℕ) (seen : ℕ → Bool) (p w : ℕ) → fault N seen Head p w ≡ Accepted → seen w ≡ false
 head-unseen N seen p w e =

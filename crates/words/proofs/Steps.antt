@@ -1,14 +1,16 @@
 -- What one turn of the check does, over plain lists.
 use mathlib.Core.Path.{_≡_, refl, sym, ap, _∙_, fun-ext}
+use mathlib.Core.Logic.{_⊎_, inl, inr}
 use mathlib.Core.List.{List, _∷_}
-use mathlib.Core.Bool.{Bool, true, false}
+use mathlib.Core.Bool.{Bool, true, false, _&&_, and-false}
 use Prim.Native.Nat.{ℕ, zero, suc, _+_, _-_, _*_, _<_, _≤_}
 use native.Mathlib.Numerals.{add-one}
 use native.Mathlib.Omega.{arith}
-use lib.Dec.{ltb}
+use lib.Dec.{ltb, leb}
 use lib.ListN.{length, getD, drop, replicate, drop-of-length-le}
 use lib.Seq.{drop-cons}
-use borrow.Author.Tests.{ltb-true}
+use borrow.Author.Tests.{ltb-true, lt-leb}
+use Rattle.refusal.specs.Numbers.{wrong-length}
 use Rattle.refusal.specs.declared.Refusal.{Refusal}
 use Rattle.bits.specs.Sets.{member}
 use Rattle.bits.proofs.Laws.{member-putIn, length-putIn, member-of-zeros}
@@ -17,7 +19,7 @@ use Rattle.words.specs.declared.Checked.the-variants.{Accepted, Refused}
 use Rattle.words.specs.declared.Due.{Due}
 use Rattle.words.specs.declared.Due.the-variants.{Head, Count, Size, Literal}
 use Rattle.words.specs.Flags.{noted}
-use Rattle.words.specs.Check.{asking, orElse, fault, groupsDue, literalsDue, next, seenAfter, noHeads, walk, ended}
+use Rattle.words.specs.Check.{asking, orElse, lengthFault, fault, groupsDue, literalsDue, next, seenAfter, noHeads, walk, ended}
 
 pub groupsDue-some : (g : ℕ) → (g ≡ 0 → ⊥) → Size (g - 1) ≡ groupsDue g
 groupsDue-some zero h = absurd (h refl)
@@ -26,6 +28,13 @@ groupsDue-some (suc g) h = ap Size (omega arith)
 pub literalsDue-some : (k g : ℕ) → (k ≡ 0 → ⊥) → Literal (k - 1) g ≡ literalsDue k g
 literalsDue-some zero g h = absurd (h refl)
 literalsDue-some (suc k) g h = ap (λ (x : ℕ). Literal x g) (omega arith)
+
+-- a number of groups or a length that is not allowed
+pub wrong-length-found : (least p w : ℕ) → (w < least) ⊎ (64 < w) → Refused (wrong-length p) ≡ lengthFault least p w
+wrong-length-found least p w (inl h) = sym (ap (λ (b : Bool). asking (b && leb w 64) (wrong-length p) Accepted) (lt-leb least w h))
+wrong-length-found least p w (inr h) =
+    sym (ap (λ (b : Bool). asking (leb least w && b) (wrong-length p) Accepted) (lt-leb w 64 h)
+    ∙ ap (λ (b : Bool). asking b (wrong-length p) Accepted) (and-false (leb least w)))
 
 pub refused-is-not-accepted : (r : Refusal) → Refused r ≡ Accepted → ⊥
 refused-is-not-accepted r e = let z : _≡_ {A = ℕ} 0 1 = cc in omega arith

@@ -1,7 +1,7 @@
 -- Document 01, the refusals of a table check: 1, 2, then words left to right, and the first faulty word decides.
 use mathlib.Core.List.{List, [], _∷_}
 use mathlib.Core.Path.{_≡_}
-use mathlib.Core.Bool.{Bool, true, false, not}
+use mathlib.Core.Bool.{Bool, true, false, not, _&&_}
 use Prim.Native.Nat.{ℕ, zero, suc, _*_}
 use lib.Dec.{leb, ltb}
 use lib.ListN.{length}
@@ -27,13 +27,17 @@ orElse (Refused r) rest = Refused r
 abbrev pub literalFault : ℕ → ℕ → ℕ → Checked
 literalFault N p w = asking (ltb w (2 * N)) (not-a-literal p) Accepted
 
+-- a head that no record before has
+abbrev pub repeatFault : (ℕ → Bool) → ℕ → ℕ → Checked
+repeatFault seen p w = asking (not (seen w)) (second-rule p) Accepted
+
 -- a number of groups or a length: at most 64, and not below the least
 abbrev pub lengthFault : ℕ → ℕ → ℕ → Checked
-lengthFault least p w = asking (leb least w) (wrong-length p) (asking (leb w 64) (wrong-length p) Accepted)
+lengthFault least p w = asking (leb least w && leb w 64) (wrong-length p) Accepted
 
 -- the fault of a word at place p, by what is due there; `seen` are the heads before it
 abbrev pub fault : ℕ → (ℕ → Bool) → Due → ℕ → ℕ → Checked
-fault N seen Head p w = orElse (literalFault N p w) (asking (not (seen w)) (second-rule p) Accepted)
+fault N seen Head p w = orElse (literalFault N p w) (repeatFault seen p w)
 fault N seen Count p w = lengthFault 0 p w
 fault N seen (Size g) p w = lengthFault 1 p w
 fault N seen (Literal k g) p w = literalFault N p w

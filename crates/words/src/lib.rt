@@ -5,7 +5,7 @@ ghost use lib.ListN.{length, getD};
 ghost use Rattle.bits.specs.Sets.{member};
 ghost use Rattle.refusal.specs.Numbers.{refusal};
 ghost use Rattle.words.specs.Flags.{noted};
-ghost use Rattle.words.specs.Check.{fault, literalFault, lengthFault, groupsDue, literalsDue, next, ended, noHeads, walk, tableCheck};
+ghost use Rattle.words.specs.Check.{orElse, fault, literalFault, repeatFault, lengthFault, groupsDue, literalsDue, next, ended, noHeads, walk, tableCheck};
 
 // The answer of a check.
 pub enum Checked {
@@ -47,6 +47,16 @@ fn refused(number: u64, at: usize) -> Checked
     })
 }
 
+// The first of two faults.
+fn first_of(a: Checked, b: Checked) -> Checked
+    ensures { λ r. ⌜ r ≡ orElse a b ⌝ }
+{
+    match a {
+        Checked::Accepted => b,
+        Checked::Refused(r) => Checked::Refused(r),
+    }
+}
+
 fn literal_fault(n: usize, at: usize, w: usize) -> Checked
     requires { ⌜ n ≤ 512 ⌝ }
     ensures { λ r. ⌜ r ≡ literalFault n at w ⌝ }
@@ -58,31 +68,24 @@ fn literal_fault(n: usize, at: usize, w: usize) -> Checked
     }
 }
 
-fn head_fault(n: usize, seen: &[u64], at: usize, w: usize) -> Checked
-    requires { ⌜ n ≤ 512 ⌝ }
-    ensures { λ r. ⌜ r ≡ fault n (member (now (seen .entry))) Due.Head at w ⌝ }
+fn repeat_fault(seen: &[u64], at: usize, w: usize) -> Checked
+    ensures { λ r. ⌜ r ≡ repeatFault (member (now (seen .entry))) at w ⌝ }
 {
-    if w < 2 * n {
-        if bits::has(seen, w) {
-            refused(refusal::SECOND_RULE, at)
-        } else {
-            Checked::Accepted
-        }
+    if bits::has(seen, w) {
+        refused(refusal::SECOND_RULE, at)
     } else {
-        refused(refusal::NOT_A_LITERAL, at)
+        Checked::Accepted
     }
 }
 
 fn length_fault(least: usize, at: usize, w: usize) -> Checked
     ensures { λ r. ⌜ r ≡ lengthFault least at w ⌝ }
 {
-    if w < least {
-        return refused(refusal::WRONG_LENGTH, at);
+    if least <= w && w <= 64 {
+        Checked::Accepted
+    } else {
+        refused(refusal::WRONG_LENGTH, at)
     }
-    if 64 < w {
-        return refused(refusal::WRONG_LENGTH, at);
-    }
-    Checked::Accepted
 }
 
 // The fault of the word at `at`, or none.
@@ -91,7 +94,7 @@ fn fault_of(n: usize, seen: &[u64], due: Due, at: usize, w: usize) -> Checked
     ensures { λ r. ⌜ r ≡ fault n (member (now (seen .entry))) due at w ⌝ }
 {
     match due {
-        Due::Head => head_fault(n, seen, at, w),
+        Due::Head => first_of(literal_fault(n, at, w), repeat_fault(seen, at, w)),
         Due::Count => length_fault(0, at, w),
         Due::Size(_) => length_fault(1, at, w),
         Due::Literal(_, _) => literal_fault(n, at, w),
@@ -138,14 +141,15 @@ fn note(seen: &mut [u64], due: Due, w: usize)
     }
 }
 
-fn ended_at(due: Due, at: usize) -> Checked
-    ensures { λ r. ⌜ r ≡ ended due at ⌝ }
+// The words have ended, so many of them.
+fn ended_at(due: Due, words: usize) -> Checked
+    ensures { λ r. ⌜ r ≡ ended due words ⌝ }
 {
     match due {
         Due::Head => Checked::Accepted,
-        Due::Count => refused(refusal::CUT_SHORT, at),
-        Due::Size(_) => refused(refusal::CUT_SHORT, at),
-        Due::Literal(_, _) => refused(refusal::CUT_SHORT, at),
+        Due::Count => refused(refusal::CUT_SHORT, words),
+        Due::Size(_) => refused(refusal::CUT_SHORT, words),
+        Due::Literal(_, _) => refused(refusal::CUT_SHORT, words),
     }
 }
 

@@ -1,18 +1,11 @@
-use mathlib.Core.Path.{_≡_, refl, sym, _∙_}
-use Prim.Native.Nat.{ℕ, _*_, _%_, _^_}
-use native.Mathlib.Nat.{one-mul}
+use mathlib.Core.Path.{refl, sym}
 use native.Mathlib.Omega.{arith}
-use lib.Dec.{lit<}
-use lib.Pow.{shl-exact}
 use borrow.Author.Needs.{needs}
-use Rattle.bits.specs.Sets.{putIn}
+use Rattle.bits.specs.Sets.{changed}
+use Rattle.bits.proofs.Bit.{one-shifted}
 use Rattle.bits.proofs.Laws.{putIn-past}
 use Rattle.bits.proofs.put.Statement.{statement}
 use Rattle.bits.proofs.put.Tie as tie
-
--- the shift of 1 by less than 64 loses nothing
-one-bit : (i : ℕ) → (1 * 2 ^ (i % 64)) % 18446744073709551616 ≡ 2 ^ (i % 64)
-one-bit i = shl-exact 1 (i % 64) 64 (lit< tt) (omega arith) ∙ one-mul (2 ^ (i % 64))
 
 mul-set : tie.Need-mul-set
 mul-set c = search needs
@@ -33,8 +26,8 @@ same-length : tie.Need-same-length
 same-length c = search needs
 
 returns : tie.Need-returns
-unfolding putIn
-returns c = rw (one-bit (c .before .before .args .i)) refl
+unfolding changed
+returns c = rw (one-shifted (c .before .before .args .i)) refl
 
 returns-2 : tie.Need-returns-2
 returns-2 c = sym (putIn-past (c .before .args .set .now) (c .before .args .i) (omega arith))

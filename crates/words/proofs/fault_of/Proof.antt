@@ -6,8 +6,14 @@ use Rattle.words.proofs.fault_of.Tie as tie
 enum-told : tie.Need-enum-told
 enum-told c = search needs
 
-head-fault-requires : tie.Need-head-fault-requires
-head-fault-requires c κs = search needs
+literal-fault-requires : tie.Need-literal-fault-requires
+literal-fault-requires c κs = search needs
+
+repeat-fault-requires : tie.Need-repeat-fault-requires
+repeat-fault-requires c κs = search needs
+
+first-of-requires : tie.Need-first-of-requires
+first-of-requires c κs = search needs
 
 enum-told-2 : tie.Need-enum-told-2
 enum-told-2 c = search needs
@@ -24,11 +30,11 @@ length-fault-requires-2 c κs = search needs
 enum-told-4 : tie.Need-enum-told-4
 enum-told-4 c = search needs
 
-literal-fault-requires : tie.Need-literal-fault-requires
-literal-fault-requires c κs = search needs
+literal-fault-requires-2 : tie.Need-literal-fault-requires-2
+literal-fault-requires-2 c κs = search needs
 
 returns : tie.Need-returns
-returns c = simp (c .before .enum-told .given .1, sym (c .head-fault .ensures))
+returns c = simp (c .before .before .before .enum-told .given .1, sym (c .before .before .literal-fault .ensures), sym (c .before .repeat-fault .ensures), sym (c .first-of .ensures))
 
 returns-2 : tie.Need-returns-2
 returns-2 c = simp (c .before .enum-told2 .given .1, sym (c .length-fault .ensures))
@@ -37,20 +43,22 @@ returns-3 : tie.Need-returns-3
 returns-3 c = simp (c .before .enum-told3 .given .1, sym (c .length-fault2 .ensures))
 
 returns-4 : tie.Need-returns-4
-returns-4 c = simp (c .before .enum-told4 .given .1, sym (c .literal-fault .ensures))
+returns-4 c = simp (c .before .enum-told4 .given .1, sym (c .literal-fault2 .ensures))
 
 pub fault-of-spec : {M : Type 1} → statement M
 fault-of-spec =
     tie.close
     (tie.spec
     enum-told
-    head-fault-requires
+    literal-fault-requires
+    repeat-fault-requires
+    first-of-requires
     enum-told-2
     length-fault-requires
     enum-told-3
     length-fault-requires-2
     enum-told-4
-    literal-fault-requires
+    literal-fault-requires-2
     returns
     returns-2
     returns-3
