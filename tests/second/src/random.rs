@@ -763,9 +763,18 @@ pub fn sheet_byte(chance: &mut Chance) -> u8 {
     if chance.one_in(12) { chance.of(BAD_BYTES) } else { chance.of(b"abz09_.-\t \n\n\t") }
 }
 
-/// A place to read at: mostly within the sheet, else at its edge, beyond it, or far beyond.
-pub fn any_place(chance: &mut Chance, length: usize) -> u64 {
-    if chance.one_in(6) { awkward_number(chance, length as u64) } else { chance.below(length as u64 + 1) }
+/// A place to read at: half the time where a literal may start, else anywhere in the sheet, at its edge, or far beyond.
+pub fn any_place(chance: &mut Chance, sheet: &[u8]) -> u64 {
+    let length = sheet.len() as u64;
+    if chance.one_in(6) {
+        return awkward_number(chance, length);
+    }
+    let at = chance.below(length + 1);
+    if chance.one_in(3) {
+        return at;
+    }
+    let starts = |place: &u64| *place == 0 || b"\n\t ".contains(&sheet[*place as usize - 1]);
+    (at..=length).find(starts).unwrap_or(length)
 }
 
 // Buffers, always filled with bytes of chance.

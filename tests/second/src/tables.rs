@@ -313,23 +313,18 @@ pub fn max_random() -> (u64, Vec<u16>) {
     finished(rules)
 }
 
-/// Groups of 1 to 6 literals, in exactly `room` words, at least 2.
+/// Groups in exactly `room` words, at least 2: mostly of 3 to 8 literals, so that facts alone do not fire them all.
 fn random_groups(chance: &mut Chance, room: usize) -> Vec<Vec<Literal>> {
     let mut groups = Vec::new();
     let mut room = room;
     while room > 0 {
-        let most = room.min(7);
-        let mut size = chance.between(2, most as u64) as usize;
-        if room - size == 1 {
-            size = if size < most { size + 1 } else { size - 1 };
-        }
-        if size < 2 || room - size == 1 {
-            size = room;
-        }
+        let size = match room {
+            0..=9 => room,
+            _ => chance.between(4, 9).min(room as u64 - 2) as usize,
+        };
         groups.push((1..size).map(|_| chance.below(2 * N as u64) as Literal).collect());
         room -= size;
     }
-    assert!(groups.len() <= MOST_GROUPS);
     groups
 }
 
