@@ -105,21 +105,34 @@ fn write_values(n: u64, held: &Bits, marked: &Bits, values: &mut [u8]) {
 
 /// Passes over the words, adding the heads that fire and are not shut out, until a pass adds nothing.
 fn reread(words: &[u16], shut_out: &Bits, set: &mut Bits) {
+    // Heads that need no look at their groups: shut out, or in the set already.
+    let mut done = *set;
+    for w in 0..16 {
+        done[w] |= shut_out[w];
+    }
     loop {
         let mut grown = false;
-        let mut rest = words;
-        while let [head, m, after @ ..] = rest {
-            rest = after;
-            let wanted = !has(set, *head) && !has(shut_out, *head);
-            let mut fires = *m == 0;
-            for _ in 0..*m {
-                let (group, after) = rest[1..].split_at(rest[0] as usize);
-                fires = fires || wanted && group.iter().all(|&literal| has(set, literal));
-                rest = after;
+        let mut at = 0;
+        while at + 1 < words.len() {
+            let (head, m) = (words[at], words[at + 1]);
+            at += 2;
+            let mut groups = m;
+            if !has(&done, head) {
+                let mut fires = m == 0;
+                while groups > 0 && !fires {
+                    let end = at + 1 + words[at] as usize;
+                    fires = words[at + 1..end].iter().all(|&literal| has(set, literal));
+                    at = end;
+                    groups -= 1;
+                }
+                if fires {
+                    add(set, head);
+                    add(&mut done, head);
+                    grown = true;
+                }
             }
-            if wanted && fires {
-                add(set, *head);
-                grown = true;
+            for _ in 0..groups {
+                at += 1 + words[at] as usize;
             }
         }
         if !grown {

@@ -67,6 +67,14 @@ fn only_one_literal_of_an_atom_goes_free() {
 }
 
 #[test]
+fn the_smallest_is_contained_in_all_others() {
+    assert_eq!(smallest(&[0b01, 0b10]), None);
+    assert_eq!(smallest(&[0b011, 0b010, 0b110]), Some(0b010));
+    assert_eq!(smallest(&[0b011, 0b010, 0b101]), None);
+    assert_eq!(smallest(&[]), None);
+}
+
+#[test]
 fn the_decision_equals_the_search_through_all_orders() {
     let orders: Vec<_> = (0..=4).map(strict_partial_orders).collect();
     let (mut yes, mut no, mut beyond) = (0, 0, 0);
