@@ -4,7 +4,7 @@ use second::judge;
 use second::model::{clean, evaluate, held, markable, settle, values_of};
 use second::random::{self, Chance};
 use second::refusal::Refusal;
-use second::table::parse;
+use second::table::{Rule, parse};
 use second::tables::written;
 use second::truth::{F, I, T, U};
 
@@ -159,4 +159,48 @@ fn random_tables_of_any_kind_are_evaluated_or_refused() {
     }
     assert_eq!(numbers.keys().copied().collect::<Vec<_>>(), [0, 1, 2, 3, 4, 5, 6, 7]);
     assert!(numbers.values().all(|&count| count > 50) && numbers[&0] > 800, "{numbers:?}");
+}
+
+/// Compares evaluation with the judge on every table that gives each literal one of these bodies, or no rule.
+fn compare_all(n: usize, bodies: &[Option<Vec<Vec<usize>>>]) -> u32 {
+    let heads = 2 * n;
+    let mut met = 0;
+    for number in 0..bodies.len().pow(heads as u32) {
+        let mut rest = number;
+        let mut rules = Vec::new();
+        for head in 0..heads {
+            if let Some(groups) = &bodies[rest % bodies.len()] {
+                rules.push(Rule { head, groups: groups.clone() });
+            }
+            rest /= bodies.len();
+        }
+        let values = values_of(&rules, &settle(n as u64, &rules).unwrap());
+        let least = judge::smallest(&judge::well_supported_models(n, &rules));
+        assert_eq!(Some(values), least.map(|set| judge::values(n, set)), "{rules:?}");
+        met += 1;
+    }
+    met
+}
+
+#[test]
+fn every_table_of_one_atom() {
+    let groups: [Vec<usize>; 3] = [vec![0], vec![1], vec![0, 1]];
+    // Bit g of the choice takes group g; no group is a fact.
+    let body = |choice: usize| (0..3).filter(|g| choice >> g & 1 == 1).map(|g| groups[g].clone()).collect();
+    let mut bodies: Vec<Option<Vec<Vec<usize>>>> = (0..8).map(|choice| Some(body(choice))).collect();
+    bodies.push(None);
+    assert_eq!(compare_all(1, &bodies), 81);
+}
+
+#[test]
+fn every_table_of_two_atoms_with_one_pair_or_two_single_literals() {
+    let mut bodies = vec![None, Some(vec![])];
+    for a in 0..4 {
+        bodies.push(Some(vec![vec![a]]));
+        for b in 0..a {
+            bodies.push(Some(vec![vec![a], vec![b]]));
+            bodies.push(Some(vec![vec![a, b]]));
+        }
+    }
+    assert_eq!(compare_all(2, &bodies), 18u32.pow(4));
 }
