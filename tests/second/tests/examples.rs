@@ -5,6 +5,7 @@ use second::marking::{Picked, fresh, mark_count, pick, report, settled};
 use second::model::evaluate;
 use second::random::Chance;
 use second::tables::{EXAMPLES, Example};
+use second::truth::letter;
 
 fn example(name: &str) -> &'static Example {
     static ALL: [Example; 12] = EXAMPLES;
@@ -115,7 +116,11 @@ fn p11_has_five_marks_and_g_and_k_do_not_prop_each_other_up() {
 
 #[test]
 fn p12_marks_the_four_that_are_not_good_mood_or_success() {
-    let p12 = example("P12");
-    assert_eq!(p12.marks, 4);
-    assert_eq!(p12.table().names.len(), 6);
+    let table = example("P12").table();
+    let mut values = vec![9; 6];
+    evaluate(table.n(), &table.words(), &mut values).unwrap();
+    for (name, value) in table.names.iter().zip(values) {
+        let expected = if matches!(name.as_str(), "good_mood" | "success") { b't' } else { b'i' };
+        assert_eq!(letter(value), expected, "{name}");
+    }
 }

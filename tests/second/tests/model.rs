@@ -124,7 +124,8 @@ fn evaluation_gives_the_smallest_well_supported_model() {
 }
 
 #[test]
-fn settled_markings_hold_and_are_never_above_n() {
+fn settled_markings_of_large_tables_leave_nothing_to_mark() {
+    let (mut with_marks, mut without) = (0, 0);
     for seed in 0..300 {
         let mut chance = Chance::new(seed);
         let (n, words) = random::large_table(&mut chance);
@@ -134,7 +135,9 @@ fn settled_markings_hold_and_are_never_above_n() {
         assert_eq!(markable(&rules, &marked), []);
         let values = values_of(&rules, &marked);
         assert!(values.iter().zip(&marked).all(|(&value, &mark)| (value == I) == mark));
+        if marked.contains(&true) { with_marks += 1 } else { without += 1 }
     }
+    assert!(with_marks > 150 && without > 20, "{with_marks} {without}");
 }
 
 #[test]
