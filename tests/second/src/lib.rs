@@ -1,0 +1,23 @@
+//! Simmerknot once more, written from document 01 alone, to compare the engine with.
+//!
+//! One file for each section of document 01, from the bottom up:
+//! `refusal` (the numbers), `truth` (values and truth tables), `table` (the word table), `model` (Held, Clean and
+//! evaluation), `marking` (the mark record and picks), `reader` and `sheet` (rule sheet and value sheet), `program`
+//! and `host`.
+//!
+//! Beside them: `judge` (Definitions 5, 6, 8 and 9 by brute force), `random` (seeded generators), `tables` (P1 to P12
+//! and the tables to measure on) and `yardstick` (two evaluators that serve only to compare speed).
+
+pub mod host;
+pub mod judge;
+pub mod marking;
+pub mod model;
+pub mod program;
+pub mod random;
+pub mod reader;
+pub mod refusal;
+pub mod sheet;
+pub mod table;
+pub mod tables;
+pub mod truth;
+pub mod yardstick;

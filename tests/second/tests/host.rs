@@ -1,0 +1,167 @@
+//! The host's entries on bytes, against the plain entries.
+
+use second::host::{simmerknot_evaluate, simmerknot_sheet};
+use second::model::evaluate;
+use second::random::{self, Chance, entry_bytes, table_bytes};
+use second::sheet::read_sheet;
+
+fn packed(number: u64, place: u64) -> u64 {
+    number * (1 << 32) + place
+}
+
+#[test]
+fn words_go_low_byte_first() {
+    let mut values = [7; 301];
+    // Head 2 × 300 + 1, a fact.
+    assert_eq!(simmerknot_evaluate(301, &[0x59, 0x02, 0, 0], &mut values), 0);
+    assert_eq!(values[300], 0);
+    assert!(values[..300].iter().all(|&value| value == 1));
+}
+
+#[test]
+fn a_lone_last_byte_is_a_record_cut_short() {
+    let mut values = [7; 1];
+    for lone in [0, 1, 255] {
+        assert_eq!(simmerknot_evaluate(1, &[lone], &mut values), packed(4, 0));
+        assert_eq!(simmerknot_evaluate(1, &[0, 0, 0, 0, lone], &mut values), packed(4, 2));
+        // A whole word that is faulty beats it.
+        assert_eq!(simmerknot_evaluate(1, &[0, 0, 65, 0, lone], &mut values), packed(6, 1));
+        assert_eq!(simmerknot_evaluate(1, &[2, 0, lone], &mut values), packed(5, 0));
+        assert_eq!(simmerknot_evaluate(513, &[lone], &mut values), packed(1, 0));
+        assert_eq!(simmerknot_evaluate(2, &[lone], &mut values), packed(3, 0));
+    }
+    assert_eq!(values, [7]);
+}
+
+#[test]
+fn refusal_2_counts_whole_words() {
+    let mut values = [7; 2];
+    let (_, mut words) = second::tables::max_t();
+    words.truncate(8192);
+    let mut bytes = table_bytes(&words);
+    let mut room = vec![7; 512];
+    assert_eq!(simmerknot_evaluate(512, &bytes, &mut room), 0);
+    bytes.push(0);
+    assert_eq!(simmerknot_evaluate(512, &bytes, &mut room), packed(4, 8192));
+    bytes.push(0);
+    assert_eq!(simmerknot_evaluate(512, &bytes, &mut room), packed(2, 0));
+    assert_eq!(simmerknot_evaluate(u64::MAX, &bytes, &mut values), packed(1, 0));
+}
+
+#[test]
+fn surplus_bytes_of_the_buffers_are_untouched() {
+    // 16,391 bytes are 8,195 words and one byte; 2,055 bytes are 513 names and three bytes.
+    for (sheet, answer) in [(&b"a\n"[..], 4), (b"a", packed(10, 1))] {
+        let (mut words, mut names, mut text) = (vec![7; 16_391], vec![7; 2055], vec![7; 6]);
+        assert_eq!(simmerknot_sheet(sheet, &mut words, &mut names, &mut text), answer);
+        assert_eq!(words[16_384..16_390], [0; 6]);
+        assert_eq!(words[16_390], 7);
+        assert_eq!(names[2048..2052], [0; 4]);
+        assert_eq!(names[2052..], [7; 3]);
+        assert!(words[2..16_390].iter().all(|&byte| byte == 0));
+        assert_eq!(names[0], (answer == 4) as u8);
+        assert_eq!(text, if answer == 4 { *b"a\tt\n\x07\x07" } else { [7; 6] });
+    }
+}
+
+#[test]
+fn buffers_too_small_are_9_and_zeroed_to_the_last_whole_entry() {
+    let (mut words, mut names) = (vec![7; 16_383], vec![7; 2048]);
+    assert_eq!(simmerknot_sheet(b"a\n", &mut words, &mut names, &mut [7; 4]), packed(9, 0));
+    assert!(words[..16_382].iter().all(|&byte| byte == 0) && names.iter().all(|&byte| byte == 0));
+    assert_eq!(words[16_382], 7);
+    let (mut words, mut names) = (vec![7; 16_384], vec![7; 2047]);
+    assert_eq!(simmerknot_sheet(b"a\n", &mut words, &mut names, &mut [7; 4]), packed(9, 0));
+    assert!(words.iter().all(|&byte| byte == 0) && names[..2044].iter().all(|&byte| byte == 0));
+    assert_eq!(names[2044..], [7; 3]);
+    let (mut words, mut names) = (vec![7; 1], vec![7; 3]);
+    assert_eq!(simmerknot_sheet(&[b'a'; 65_537], &mut words, &mut names, &mut []), packed(8, 0));
+    assert_eq!((words, names), (vec![7; 1], vec![7; 3]));
+    assert_eq!(simmerknot_sheet(b"", &mut [], &mut [], &mut []), packed(9, 0));
+}
+
+#[test]
+fn a_place_beyond_16_bits_is_told_whole() {
+    let mut sheet = b"a\t".to_vec();
+    for _ in 0..511 {
+        sheet.extend(b"b ".repeat(63));
+        sheet.extend(b"b\t");
+    }
+    sheet.truncate(65_536);
+    assert_eq!(sheet.len(), 65_410);
+    let (mut words, mut names) = (vec![7; 16_384], vec![7; 2048]);
+    assert_eq!(simmerknot_sheet(&sheet, &mut words, &mut names, &mut []), packed(13, 2 + 64 * 128));
+    let no_end = [&b"h\t"[..], &[b'x'; 1]].concat();
+    assert_eq!(simmerknot_sheet(&no_end, &mut words, &mut names, &mut []), packed(10, 3));
+    // Lines of 1,024 bytes; the last one does not end.
+    let line = |i: usize| format!("h{i:02}\t{}\n", vec!["z".repeat(16); 60].join(" "));
+    let lines: String = (0..64).map(line).collect();
+    let cut = &lines.as_bytes()[..lines.len() - 1];
+    assert!(cut.len() == 65_535, "{}", cut.len());
+    assert_eq!(simmerknot_sheet(cut, &mut words, &mut names, &mut [0; 1000]), packed(10, 65_535));
+}
+
+#[test]
+fn evaluation_on_bytes_equals_evaluation_on_words() {
+    let (mut accepted, mut refused, mut lone) = (0, 0, 0);
+    for seed in 0..3000 {
+        let mut chance = Chance::new(seed);
+        let (n, words) = random::any_table(&mut chance);
+        let mut bytes = table_bytes(&words);
+        let odd = chance.one_in(5);
+        if odd {
+            bytes.push(chance.number() as u8);
+        }
+        let mut on_words = random::value_room(&mut chance, n);
+        let mut on_bytes = on_words.clone();
+        let before = on_words.clone();
+        let answer = simmerknot_evaluate(n, &bytes, &mut on_bytes);
+        match evaluate(n, &words, &mut on_words) {
+            Ok(()) if odd => {
+                assert_eq!(answer, packed(4, words.len() as u64), "seed {seed}");
+                assert_eq!(on_bytes, before, "seed {seed}");
+                lone += 1;
+            }
+            Ok(()) => {
+                assert_eq!(answer, 0, "seed {seed}");
+                assert_eq!(on_bytes, on_words, "seed {seed}");
+                accepted += 1;
+            }
+            Err(refusal) => {
+                assert_eq!(answer, packed(refusal.number.into(), refusal.place), "seed {seed}");
+                assert_eq!(on_bytes, before, "seed {seed}");
+                refused += 1;
+            }
+        }
+    }
+    assert!(accepted > 600 && refused > 600 && lone > 150, "{accepted} {refused} {lone}");
+}
+
+#[test]
+fn the_sheet_entry_on_bytes_equals_the_sheet_entry() {
+    let (mut accepted, mut refused) = (0, 0);
+    for seed in 0..1500 {
+        let mut chance = Chance::new(seed);
+        let sheet = random::any_sheet(&mut chance);
+        let (mut words, mut names) = (random::word_bytes(&mut chance), random::name_bytes(&mut chance));
+        let mut text = random::text_room(&mut chance, 40);
+        let (mut words_before, mut names_before) = (words.clone(), names.clone());
+        let (mut entries, mut starts) = (vec![7; words.len() / 2], vec![7; names.len() / 4]);
+        let mut same_text = text.clone();
+        let answer = simmerknot_sheet(&sheet, &mut words, &mut names, &mut text);
+        match read_sheet(&sheet, &mut entries, &mut starts, &mut same_text) {
+            Ok(given) => {
+                assert_eq!(answer, given.value_sheet_length, "seed {seed}");
+                accepted += 1;
+            }
+            Err(refusal) => {
+                assert_eq!(answer, packed(refusal.number.into(), refusal.place), "seed {seed}");
+                refused += 1;
+            }
+        }
+        words_before[..2 * entries.len()].copy_from_slice(&table_bytes(&entries));
+        names_before[..4 * starts.len()].copy_from_slice(&entry_bytes(&starts));
+        assert_eq!((words, names, text), (words_before, names_before, same_text), "seed {seed}");
+    }
+    assert!(accepted > 300 && refused > 500, "{accepted} {refused}");
+}
