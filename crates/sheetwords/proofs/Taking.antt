@@ -60,7 +60,7 @@ module _ (s : List ℕ) (p : ℕ) (l : SheetLiteral) (k : Counts) (ws names head
       k′,
       refl,
       subst (λ (y : ℕ). Put (atomIn s k names l) y l k ws names heads k′ ws′ names′ heads′) code-is
-      (subst (λ (x : ℕ). Put x c l k ws names heads k′ ws′ names′ heads′) number put),
+          (subst (λ (x : ℕ). Put x c l k ws names heads k′ ws′ names′ heads′) number put),
     );
     faulty = λ y h. absurd (refused-is-not-accepted y (sym h ∙ fault-is ∙ e));
   }

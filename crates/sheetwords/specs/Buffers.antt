@@ -20,7 +20,7 @@ use Rattle.sheetwords.specs.declared.Taken.{Taken}
 use Rattle.sheetwords.specs.declared.Taken.the-variants.{On, Off}
 use Rattle.sheetwords.specs.declared.Filled.{Filled}
 use Rattle.sheetwords.specs.declared.Filled.the-variants.{Read, Refused}
-use Rattle.sheetwords.specs.Sheets.{Sofar, Outcome, accepted, refused, wordsFor, atomOf, codeOf, repeats, inBody, faultWith}
+use Rattle.sheetwords.specs.Sheets.{Sofar, Outcome, accepted, refused, wordsFor, atomOf, codeOf, isHead, repeats, inBody, faultWith}
 
 -- a buffer of so many entries: a list, and all later entries zero
 unfoldable pub padded : ℕ → List ℕ → List ℕ
@@ -106,3 +106,17 @@ pub record Took (s : List ℕ) (p : ℕ) (l : SheetLiteral) (k : Counts) (ws nam
   pub faultless : faultIn s k ws names heads p l ≡ Accepted
       → (k′ : Counts) × (r ≡ On k′) × Put (atomIn s k names l) (codeIn s k names l) l k ws names heads k′ ws′ names′ heads′
   pub faulty : (x : Refusal) → faultIn s k ws names heads p l ≡ Faulty x → r ≡ Off x
+
+-- what filling the buffers leaves: the answer, and where the sheet is accepted its words, names and heads
+pub record FilledBy (o : Outcome) (r : Filled) (ws ns heads : List ℕ) : Type 0 where
+  pub answer : r ≡ answerOf o
+  pub words-are : (sofar : Sofar) → o ≡ accepted sofar → ws ≡ padded (length ws) (wordsOf (sofar .rules))
+  pub names-are : (sofar : Sofar) → o ≡ accepted sofar → ns ≡ padded (length ns) (sofar .names)
+  pub heads-are : (sofar : Sofar) → o ≡ accepted sofar → (j : ℕ) → member heads j ≡ isHead (sofar .rules) j
+
+-- a sheet has been read into buffers of so many entries: the answer, every word, every name entry, and the heads of an accepted sheet
+pub record ReadInto (o : Outcome) (wordRoom nameRoom : ℕ) (r : Filled) (ws ns heads : List ℕ) : Type 0 where
+  pub answer : r ≡ answerOf o
+  pub words-are : ws ≡ padded wordRoom (wordsIn o)
+  pub names-are : ns ≡ padded nameRoom (namesIn o)
+  pub heads-are : (sofar : Sofar) → o ≡ accepted sofar → (j : ℕ) → member heads j ≡ isHead (sofar .rules) j

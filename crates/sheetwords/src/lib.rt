@@ -1,14 +1,17 @@
-use reader::{Reading, Role, SheetLiteral};
+use reader::Reading;
+use reader::Role;
+use reader::SheetLiteral;
 use refusal::Refusal;
 use words::Checked;
 ghost use mathlib.Core.Path.{_≡_};
-ghost use Prim.Native.Nat.{_+_, _<_, _≤_, _^_};
-ghost use lib.ListN.{length, getD, take};
+ghost use Prim.Native.Nat.{ℕ, _+_, _<_, _≤_};
+ghost use mathlib.Core.List.{[]};
+ghost use lib.ListN.{length, getD, replicate};
 ghost use Rattle.bits.specs.Sets.{member};
 ghost use Rattle.refusal.specs.Numbers.{refusal};
 ghost use Rattle.names.specs.Names.{entryFor};
-ghost use Rattle.sheetwords.specs.Sheets.{codeFor, wordsFor, repeats, inBody, faultWith, sheetOutcome};
-ghost use Rattle.sheetwords.specs.Buffers.{namesWith, putWords, putName, putHead, counted, Room, bodyIn, faultBy, Put, Took};
+ghost use Rattle.sheetwords.specs.Sheets.{codeFor, wordsFor, repeats, faultWith, sheetFrom, nothing, sheetOutcome};
+ghost use Rattle.sheetwords.specs.Buffers.{namesWith, putWords, putName, putHead, counted, Room, bodyIn, faultBy, Put, Took, padded, FilledBy, ReadInto};
 
 // What reading a sheet into words answers: N and the words filled, or the refusal.
 pub enum Filled {
@@ -40,7 +43,14 @@ fn refused(number: u64, at: usize) -> Checked
 }
 
 // The fault of a literal, from what there would be with it.
-fn fault_with(names: usize, repeated: bool, body: usize, words: usize, place: usize, start: usize) -> Checked
+fn fault_with(
+    names: usize,
+    repeated: bool,
+    body: usize,
+    words: usize,
+    place: usize,
+    start: usize,
+) -> Checked
     ensures { λ r. ⌜ r ≡ faultWith names repeated body words place start ⌝ }
 {
     if 512 < names {
@@ -106,7 +116,15 @@ fn words_for(role: Role) -> usize
 }
 
 // The fault of a literal at `place`, by what the buffers hold.
-fn fault_of(words: &[u16], heads: &[u64], counts: Counts, atom: usize, code: usize, place: usize, l: SheetLiteral) -> Checked
+fn fault_of(
+    words: &[u16],
+    heads: &[u64],
+    counts: Counts,
+    atom: usize,
+    code: usize,
+    place: usize,
+    l: SheetLiteral,
+) -> Checked
     requires { ⌜ counts .atoms ≤ 512 ⌝ }
     requires { ⌜ counts .words ≤ 8192 ⌝ }
     requires { ⌜ counts .rule + 2 ≤ 8192 ⌝ }
@@ -177,8 +195,7 @@ fn put_name(names: &mut [u32], atom: usize, atoms: usize, start: usize, len: usi
     requires { ⌜ len ≤ 24 ⌝ }
     ensures { λ _. ⌜ now (names .exit) ≡ putName atom atoms (entryFor start len) (now (names .entry)) ⌝ }
 {
-    if atom < atoms {
-    } else {
+    if atom < atoms {} else {
         names[atoms] = (32 * start + len) as u32;
     }
 }
@@ -225,7 +242,15 @@ fn count_on(role: Role, atom: usize, counts: Counts) -> Counts
 }
 
 // Puts a literal of this number and code into the buffers.
-fn put_literal(words: &mut [u16], names: &mut [u32], heads: &mut [u64], counts: Counts, atom: usize, code: usize, l: SheetLiteral) -> Counts
+fn put_literal(
+    words: &mut [u16],
+    names: &mut [u32],
+    heads: &mut [u64],
+    counts: Counts,
+    atom: usize,
+    code: usize,
+    l: SheetLiteral,
+) -> Counts
     requires { ⌜ Room counts (now words) (now names) ⌝ }
     requires { ⌜ counts .words + wordsFor (l .role) ≤ 8192 ⌝ }
     requires { ⌜ namesWith atom (counts .atoms) ≤ 512 ⌝ }
@@ -243,7 +268,15 @@ fn put_literal(words: &mut [u16], names: &mut [u32], heads: &mut [u64], counts: 
 }
 
 // Takes the literal at `place` into the buffers, unless it has a fault.
-fn take_literal(sheet: &[u8], words: &mut [u16], names: &mut [u32], heads: &mut [u64], counts: Counts, place: usize, l: SheetLiteral) -> Taken
+fn take_literal(
+    sheet: &[u8],
+    words: &mut [u16],
+    names: &mut [u32],
+    heads: &mut [u64],
+    counts: Counts,
+    place: usize,
+    l: SheetLiteral,
+) -> Taken
     requires { ⌜ Room counts (now words) (now names) ⌝ }
     requires { ⌜ l .start ≤ 65536 ⌝ }
     requires { ⌜ l .len ≤ 24 ⌝ }
@@ -255,4 +288,106 @@ fn take_literal(sheet: &[u8], words: &mut [u16], names: &mut [u32], heads: &mut 
         return Taken::Off(r);
     }
     Taken::On(put_literal(words, names, heads, counts, atom, code, l))
+}
+
+// Literal after literal, into empty buffers; the first with a fault decides.
+fn fill(sheet: &[u8], words: &mut [u16], names: &mut [u32], heads: &mut [u64]) -> Filled
+    requires { ⌜ 8192 ≤ length (now words) ⌝ }
+    requires { ⌜ 512 ≤ length (now names) ⌝ }
+    requires { ⌜ now words ≡ padded (length (now words)) [] ⌝ }
+    requires { ⌜ now names ≡ padded (length (now names)) [] ⌝ }
+    requires { ⌜ now heads ≡ replicate 16 0 ⌝ }
+    ensures { λ r. ⌜ FilledBy (sheetFrom (length (now (sheet .entry)) + 1) (now (sheet .entry)) 0 nothing) r (now (words .exit)) (now (names .exit)) (now (heads .exit)) ⌝ }
+{
+    let mut counts = Counts {
+        atoms: 0,
+        words: 0,
+        rule: 0,
+        group: 0,
+    };
+    let mut place: usize = 0;
+    loop {
+        let next = reader::next_at(sheet, place);
+        let reading = next.reading;
+        match reading {
+            Reading::End => return Filled::Read(counts.atoms, counts.words),
+            Reading::Refused(r) => return Filled::Refused(r),
+            Reading::Literal(l) => {
+                let taken = take_literal(sheet, words, names, heads, counts, place, l);
+                match taken {
+                    Taken::On(c) => counts = c,
+                    Taken::Off(r) => return Filled::Refused(r),
+                }
+            }
+        }
+        place = next.place;
+    }
+}
+
+fn clear_words(words: &mut [u16])
+    ensures { λ _. ⌜ now (words .exit) ≡ padded (length (now (words .entry))) [] ⌝ }
+{
+    let mut i: usize = 0;
+    while i < words.len() {
+        words[i] = 0;
+        i += 1;
+    }
+}
+
+fn clear_names(names: &mut [u32])
+    ensures { λ _. ⌜ now (names .exit) ≡ padded (length (now (names .entry))) [] ⌝ }
+{
+    let mut i: usize = 0;
+    while i < names.len() {
+        names[i] = 0;
+        i += 1;
+    }
+}
+
+// Fills empty buffers, and leaves them empty where the sheet is refused.
+fn fill_or_clear(sheet: &[u8], words: &mut [u16], names: &mut [u32], heads: &mut [u64]) -> Filled
+    requires { ⌜ 8192 ≤ length (now words) ⌝ }
+    requires { ⌜ 512 ≤ length (now names) ⌝ }
+    requires { ⌜ now words ≡ padded (length (now words)) [] ⌝ }
+    requires { ⌜ now names ≡ padded (length (now names)) [] ⌝ }
+    requires { ⌜ now heads ≡ replicate 16 0 ⌝ }
+    ensures { λ r. ⌜ ReadInto (sheetFrom (length (now (sheet .entry)) + 1) (now (sheet .entry)) 0 nothing) (length (now (words .entry))) (length (now (names .entry))) r (now (words .exit)) (now (names .exit)) (now (heads .exit)) ⌝ }
+{
+    let filled = fill(sheet, words, names, heads);
+    match filled {
+        Filled::Read(n, w) => Filled::Read(n, w),
+        Filled::Refused(r) => {
+            clear_words(words);
+            clear_names(names);
+            Filled::Refused(r)
+        }
+    }
+}
+
+// Reads a sheet into words, name entries and the flags of its heads: 8, 9, then its literals.
+pub fn read_words(sheet: &[u8], words: &mut [u16], names: &mut [u32], heads: &mut [u64]) -> Filled
+    requires { ⌜ now heads ≡ replicate 16 0 ⌝ }
+    ensures { λ r. ⌜ ReadInto (sheetOutcome (now (sheet .entry)) (length (now (words .entry))) (length (now (names .entry)))) (length (now (words .entry))) (length (now (names .entry))) r (now (words .exit)) (now (names .exit)) (now (heads .exit)) ⌝ }
+{
+    clear_words(words);
+    clear_names(names);
+    if 65536 < sheet.len() {
+        return Filled::Refused(Refusal {
+            number: refusal::SHEET_TOO_LONG,
+            place: 0,
+        });
+    }
+    if words.len() < 8192 {
+        return Filled::Refused(Refusal {
+            number: refusal::BUFFER_TOO_SMALL,
+            place: 0,
+        });
+    }
+    if names.len() < 512 {
+        return Filled::Refused(Refusal {
+            number: refusal::BUFFER_TOO_SMALL,
+            place: 0,
+        });
+    }
+    fill_or_clear(sheet, words, names, heads)
 }
