@@ -4,3 +4,4 @@ pub mod Layouts
 pub mod Growth
 pub mod Filling
 pub mod Turns
+pub mod Laws
