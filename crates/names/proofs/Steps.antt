@@ -34,7 +34,7 @@ pub other-length-name : (s : List ℕ) (e q n : ℕ) → (e % 32 ≡ n → ⊥) 
 other-length-name s e q n h =
     other-length (nameOf s e) (bytesAt s q n) (λ l. h (sym (length-bytesAt s _ (e % 32)) ∙ l ∙ length-bytesAt s q n))
 
-bytes-cons : (s : List ℕ) (a n i : ℕ) → i < n → bytesAt s (a + i) (n - i) ≡ byteAt s (a + i) ∷ bytesAt s (a + (i + 1)) (n - (i + 1))
+pub bytes-cons : (s : List ℕ) (a n i : ℕ) → i < n → bytesAt s (a + i) (n - i) ≡ byteAt s (a + i) ∷ bytesAt s (a + (i + 1)) (n - (i + 1))
 unfolding bytesAt
 bytes-cons s a n i h =
     let left : n - i ≡ suc (n - (i + 1)) = omega arith in
