@@ -48,7 +48,7 @@ fn refused(number: u64, at: usize) -> Checked
 }
 
 // The first of two faults.
-fn first_of(a: Checked, b: Checked) -> Checked
+pub fn first_of(a: Checked, b: Checked) -> Checked
     ensures { λ r. ⌜ r ≡ orElse a b ⌝ }
 {
     match a {

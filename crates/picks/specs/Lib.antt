@@ -1,0 +1,2 @@
+-- The entries of "Marking by picks".
+pub mod Entries
