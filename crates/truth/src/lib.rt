@@ -31,10 +31,10 @@ pub fn and(v: u64, w: u64) -> Truth
     if 3 < w {
         return refused();
     }
-    if v <= w {
-        Truth::Code(v)
-    } else {
+    if w < v {
         Truth::Code(w)
+    } else {
+        Truth::Code(v)
     }
 }
 
