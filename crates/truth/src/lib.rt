@@ -12,6 +12,7 @@ pub enum Truth {
 // Implication: the row of the body, in it the column of the head.
 const IMPLICATION: [[u64; 4]; 4] = [[3, 3, 3, 3], [3, 3, 3, 3], [0, 0, 3, 0], [0, 0, 3, 3]];
 
+// A number above 3 is no truth code.
 fn refused() -> Truth
     ensures { λ r. ⌜ r ≡ Truth.Refused not-a-truth-code ⌝ }
 {
