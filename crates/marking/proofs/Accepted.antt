@@ -40,14 +40,14 @@ record-good N A e =
     let p = asking-accepted (lib.Dec.leb N 512) too-many-atoms (asking (not (marksFrom A N (512 - N))) mark-past-atoms Accepted) e in
     let q = asking-accepted (not (marksFrom A N (512 - N))) mark-past-atoms Accepted (p .1) in
     let le = leb-true N 512 (p .0) in
-    record
-      { at-most-512 = le
-      ; below = λ a lt t.
+    record {
+      at-most-512 = le;
+      below = λ a lt t.
           elim (decLt a N) [
             | yes h ↦ h
             | no h ↦ absurd (T-not (marksFrom A N (512 - N)) (Rattle.paper.proofs.Tests.true→T (not (marksFrom A N (512 - N))) (q .0)) (marksFrom-finds A N (512 - N) a (omega arith) (omega arith) t))
-          ]
-      }
+          ];
+    }
 
 -- and the other way round
 pub good-record : (N : ℕ) (A : ℕ → Bool) → N ≤ 512 → ((a : ℕ) → a < 512 → T (A a) → a < N) → recordFault N A ≡ Accepted

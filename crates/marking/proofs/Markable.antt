@@ -21,19 +21,19 @@ module _ (R : List Rule) (A : Marks) (H C : ℕ → Bool) (h : IsHeld R A H) (c 
   →heldNotClean l t = and-intro (H l) (not (C l)) (h l .1 (t .0)) (not-T (C l) (λ k. t .1 (c l .0 k)))
 
   pub markable-is : (a : ℕ) → T (markable A H C a) ↔ CanBeMarked R A a
-  markable-is a =
-      ( (λ t.
+  markable-is a = (
+    (λ t.
         let b = and-right (not (A a)) (conflicts H C a) t in
-        record
-          { unmarked = and-left (not (A a)) (conflicts H C a) t
-          ; because =
+        record {
+          unmarked = and-left (not (A a)) (conflicts H C a) t;
+          because =
               ⊎-elim (λ (x : T (H (positive a) && H (negative a))). inl (h (positive a) .0 (and-left (H (positive a)) (H (negative a)) x), h (negative a) .0 (and-right (H (positive a)) (H (negative a)) x)))
               (λ (x : T (heldNotClean H C (positive a) || heldNotClean H C (negative a))).
               inr (⊎-elim (λ (y : T (heldNotClean H C (positive a))). inl (heldNotClean→ (positive a) y)) (λ (y : T (heldNotClean H C (negative a))). inr (heldNotClean→ (negative a) y))
               (or-cases (heldNotClean H C (positive a)) (heldNotClean H C (negative a)) x)))
-              (or-cases (H (positive a) && H (negative a)) (heldNotClean H C (positive a) || heldNotClean H C (negative a)) b)
-          })
-      , λ m.
+              (or-cases (H (positive a) && H (negative a)) (heldNotClean H C (positive a) || heldNotClean H C (negative a)) b);
+        }),
+    λ m.
         and-intro (not (A a)) (conflicts H C a) (m .unmarked)
         (⊎-elim
         (λ (x : Held R A (positive a) × Held R A (negative a)).
@@ -43,8 +43,8 @@ module _ (R : List Rule) (A : Marks) (H C : ℕ → Bool) (h : IsHeld R A H) (c 
         or-right (H (positive a) && H (negative a)) (heldNotClean H C (positive a) || heldNotClean H C (negative a))
         (⊎-elim (λ (y : HeldNotClean R A (positive a)). or-left (heldNotClean H C (positive a)) (heldNotClean H C (negative a)) (→heldNotClean (positive a) y))
         (λ (y : HeldNotClean R A (negative a)). or-right (heldNotClean H C (positive a)) (heldNotClean H C (negative a)) (→heldNotClean (negative a) y)) x))
-        (m .because))
-      )
+        (m .because)),
+  )
 
   some→ : (n : ℕ) → T (markableBelow A H C n) → (a : ℕ) × T (markable A H C a)
   unfolding markableBelow
@@ -62,7 +62,7 @@ module _ (R : List Rule) (A : Marks) (H C : ℕ → Bool) (h : IsHeld R A H) (c 
 
   pub goes-on : (n : ℕ) → HeadsBelow n R → (r : Bool) → r ≡ markableBelow A H C n → GoesOn R A r
   goes-on n below r e =
-      record
-        { when-true = λ f s. let q = some→ n (true→T (markableBelow A H C n) (sym e ∙ f)) in s (q .0) (markable-is (q .0) .0 (q .1))
-        ; when-false = λ f a m. T-not (markableBelow A H C n) (false→not (markableBelow A H C n) (sym e ∙ f)) (→some n a (can-be-marked-below R n below A a m) (markable-is a .1 m))
-        }
+      record {
+        when-true = λ f s. let q = some→ n (true→T (markableBelow A H C n) (sym e ∙ f)) in s (q .0) (markable-is (q .0) .0 (q .1));
+        when-false = λ f a m. T-not (markableBelow A H C n) (false→not (markableBelow A H C n) (sym e ∙ f)) (→some n a (can-be-marked-below R n below A a m) (markable-is a .1 m));
+      }
