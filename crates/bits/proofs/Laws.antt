@@ -16,7 +16,7 @@ use borrow.Author.Tests.{eq-eqb, ne-eqb}
 use Rattle.bits.specs.Sets.{bit, member, changed, putIn, takenOut, Words, _with_, _without_, lowestBelow}
 use Rattle.bits.specs.declared.Found.the-variants.{At}
 use Rattle.bits.specs.Counting.{countBelow}
-use Rattle.bits.proofs.Counting.{countBelow-ext, countBelow-add, countBelow-cut}
+use Rattle.bits.proofs.Counting.{countBelow-ext, countBelow-add, countBelow-cut, countBelow-one-more}
 use Rattle.bits.proofs.Least.{lowestFrom-at}
 use Rattle.bits.proofs.Bit.{lowest-bit, ones-count}
 use Rattle.bits.proofs.Bit.{differs, differs-false, bit-of-zero, bit-or, bit-xor, bit-pow-same, bit-pow-other, same-bits}
@@ -207,6 +207,22 @@ count-word s w h =
 -- nothing past the last word is counted
 pub count-past : (s : List ℕ) (m : ℕ) → countBelow (64 * length s + m) (member s) ≡ countBelow (64 * length s) (member s)
 count-past s m = countBelow-cut (64 * length s) m (member s) (λ i h l. member-past s i h)
+
+-- in at most sixteen words every member is counted
+pub count-all : (s : List ℕ) → length s ≤ 16 → countBelow 1024 (member s) ≡ countBelow (64 * length s) (member s)
+count-all s h =
+    let room : 1024 ≡ 64 * length s + (1024 - 64 * length s) = omega arith in
+    ap (λ (n : ℕ). countBelow n (member s)) room ∙ count-past s (1024 - 64 * length s)
+
+-- a number that joins a set makes one more
+pub count-with : (n i : ℕ) (p : ℕ → Bool) → i < n → p i ≡ false → countBelow n (p with i) ≡ countBelow n p + 1
+count-with n i p h e =
+    countBelow-one-more n i p (p with i) h e (ap (λ (b : Bool). cond b true (p i)) (eq-eqb i i refl))
+    (λ j l ne. ap (λ (b : Bool). cond b true (p j)) (ne-eqb j i ne))
+
+pub count-putIn : (n : ℕ) (s : List ℕ) (i : ℕ) → i < n → i < 64 * length s → member s i ≡ false
+    → countBelow n (member (putIn s i)) ≡ countBelow n (member s) + 1
+count-putIn n s i h l e = ap (countBelow n) (member-putIn s i l) ∙ count-with n i (member s) h e
 
 -- ---- the lowest member
 

@@ -12,6 +12,7 @@ pub enum Truth {
 // Implication: the row of the body, in it the column of the head.
 const IMPLICATION: [[u64; 4]; 4] = [[3, 3, 3, 3], [3, 3, 3, 3], [0, 0, 3, 0], [0, 0, 3, 3]];
 
+// A number above 3 is no truth code.
 fn refused() -> Truth
     ensures { λ r. ⌜ r ≡ Truth.Refused not-a-truth-code ⌝ }
 {
@@ -31,10 +32,10 @@ pub fn and(v: u64, w: u64) -> Truth
     if 3 < w {
         return refused();
     }
-    if v <= w {
-        Truth::Code(v)
-    } else {
+    if w < v {
         Truth::Code(w)
+    } else {
+        Truth::Code(v)
     }
 }
 

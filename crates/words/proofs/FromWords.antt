@@ -103,6 +103,13 @@ groups N seen (suc g) p (k ∷ t) e =
       goes-on = ih .goes-on;
     }
 
+-- head, number of groups, groups, and the words of the other rules
+record-words : (w m : ℕ) (t : List ℕ) (βs : List (List ℕ)) (rest : List ℕ) (R : List Rule)
+    → length βs ≡ m → t ≡ groupsWords βs ++ rest → rest ≡ wordsOf R → w ∷ m ∷ t ≡ wordsOf (record { head = w; groups = βs } ∷ R)
+unfolding wordsOf
+record-words w m t βs rest R size split more =
+    ap₂ (λ (x : ℕ) (u : List ℕ). w ∷ x ∷ u) (sym size) (split ∙ ap (λ (u : List ℕ). groupsWords βs ++ u) more)
+
 pub record Records (N : ℕ) (seen : ℕ → Bool) (t : List ℕ) : Type 0 where
   pub R : List Rule
   pub split : t ≡ wordsOf R
@@ -122,7 +129,7 @@ records N seen (suc n) p (w ∷ m ∷ t) h e =
     (omega (arith, ap length (body .split), length-append (groupsWords (body .βs)) (body .rest))) (body .goes-on) in
     record {
       R = record { head = w; groups = body .βs } ∷ ih .R;
-      split = ap₂ (λ (x : ℕ) (u : List ℕ). w ∷ x ∷ u) (sym (body .size)) (body .split ∙ ap (λ (u : List ℕ). groupsWords (body .βs) ++ u) (ih .split));
+      split = record-words w m t (body .βs) (body .rest) (ih .R) (body .size) (body .split) (ih .split);
       good = (
         head-below N seen p w (first .0),
         head-unseen N seen p w (first .0),

@@ -1,7 +1,7 @@
 -- Document 01, "Word table": how records lie in the words. Nothing else in the project knows it.
--- W2's line number after the head: recordWords writes it, rulesWithin passes over it, and Check.antt has one Due more.
--- W10's IN words are literals of their own: Check.antt's literal fault, and nothing here.
--- W13's brackets count as one in k: groupWords and takeGroup, and Check.antt's Due of what stands inside a bracket.
+-- W2, a line number after the head: recordWords and rulesWithin; a Due after Head in Check.antt and src/; record-at in proofs/Places.antt.
+-- W10, IN words: literalFault in Check.antt where they are allowed; nothing here, since an IN word is one word of a group.
+-- W13, brackets that count as one in k: groupWords, takeGroups and dropGroups; a Due inside a bracket; group-at in proofs/Places.antt.
 use mathlib.Core.List.{List, [], _∷_, _++_}
 use Prim.Native.Nat.{ℕ, zero, suc, _+_}
 use lib.ListN.{length, getD, take, drop}

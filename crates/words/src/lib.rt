@@ -38,6 +38,7 @@ pub fn word(table: &[u16], i: usize) -> usize
     }
 }
 
+// The refusal of this number at this place.
 fn refused(number: u64, at: usize) -> Checked
     ensures { λ r. ⌜ r ≡ Checked.Refused (refusal number at) ⌝ }
 {
@@ -48,7 +49,7 @@ fn refused(number: u64, at: usize) -> Checked
 }
 
 // The first of two faults.
-fn first_of(a: Checked, b: Checked) -> Checked
+pub fn first_of(a: Checked, b: Checked) -> Checked
     ensures { λ r. ⌜ r ≡ orElse a b ⌝ }
 {
     match a {
@@ -57,6 +58,7 @@ fn first_of(a: Checked, b: Checked) -> Checked
     }
 }
 
+// A literal code is below twice the number of atoms.
 fn literal_fault(n: usize, at: usize, w: usize) -> Checked
     requires { ⌜ n ≤ 512 ⌝ }
     ensures { λ r. ⌜ r ≡ literalFault n at w ⌝ }
@@ -68,6 +70,7 @@ fn literal_fault(n: usize, at: usize, w: usize) -> Checked
     }
 }
 
+// A head was not seen before.
 fn repeat_fault(seen: &[u64], at: usize, w: usize) -> Checked
     ensures { λ r. ⌜ r ≡ repeatFault (member (now (seen .entry))) at w ⌝ }
 {
@@ -78,6 +81,7 @@ fn repeat_fault(seen: &[u64], at: usize, w: usize) -> Checked
     }
 }
 
+// A number of groups or a length is at most 64, and not below the least.
 fn length_fault(least: usize, at: usize, w: usize) -> Checked
     ensures { λ r. ⌜ r ≡ lengthFault least at w ⌝ }
 {
@@ -101,12 +105,14 @@ fn fault_of(n: usize, seen: &[u64], due: Due, at: usize, w: usize) -> Checked
     }
 }
 
+// `g` groups are to come.
 fn groups_due(g: usize) -> Due
     ensures { λ r. ⌜ r ≡ groupsDue g ⌝ }
 {
     if g == 0 { Due::Head } else { Due::Size(g - 1) }
 }
 
+// `k` literals of a group are to come, and `g` groups after it.
 fn literals_due(k: usize, g: usize) -> Due
     ensures { λ r. ⌜ r ≡ literalsDue k g ⌝ }
 {

@@ -1,0 +1,29 @@
+use borrow.Author.Needs.{needs}
+use mathlib.Core.Path.{sym}
+use borrow.Author.Needs.{needs}
+use Rattle.marking.proofs.held_not_clean.Statement.{statement}
+use Rattle.marking.proofs.held_not_clean.Tie as tie
+use Rattle.marking.proofs.held_not_clean.Reads as reads
+use Rattle.marking.proofs.held_not_clean.Lts as lts
+use Rattle.bits.proofs.has.Reads as has-reads
+
+has-requires : tie.Need-has-requires
+has-requires c κs = search needs
+
+has-requires-2 : tie.Need-has-requires-2
+has-requires-2 c κs = search needs
+
+returns : tie.Need-returns
+returns c =
+    rw (sym (c .before .before .before .has .ensures), c .before .before .if1 .taken, sym (c .before .has2 .ensures), c .if2 .taken)
+
+returns-2 : tie.Need-returns-2
+returns-2 c =
+    rw (sym (c .before .before .before .has .ensures), c .before .before .if1 .taken, sym (c .before .has2 .ensures), c .if2 .left)
+
+returns-3 : tie.Need-returns-3
+returns-3 c =
+    rw (sym (c .before .has .ensures), c .if1 .left)
+
+pub held-not-clean-spec : {M : Type 1} → statement M
+held-not-clean-spec = tie.close (tie.spec has-requires has-requires-2 returns returns-2 returns-3)

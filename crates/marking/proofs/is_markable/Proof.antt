@@ -1,0 +1,26 @@
+use borrow.Author.Needs.{needs}
+use mathlib.Core.Path.{sym}
+use borrow.Author.Needs.{needs}
+use Rattle.marking.proofs.is_markable.Statement.{statement}
+use Rattle.marking.proofs.is_markable.Tie as tie
+use Rattle.marking.proofs.is_markable.Reads as reads
+use Rattle.marking.proofs.is_markable.Lts as lts
+use Rattle.bits.proofs.has.Reads as has-reads
+use Rattle.marking.proofs.conflict.Reads as conflict-reads
+
+has-requires : tie.Need-has-requires
+has-requires c κs = search needs
+
+conflict-requires : tie.Need-conflict-requires
+conflict-requires c κs = search needs
+
+returns : tie.Need-returns
+returns c =
+    rw (sym (c .before .has .ensures), c .if1 .taken)
+
+returns-2 : tie.Need-returns-2
+returns-2 c =
+    rw (sym (c .before .before .has .ensures), c .before .if1 .left) (c .conflict .ensures)
+
+pub is-markable-spec : {M : Type 1} → statement M
+is-markable-spec = tie.close (tie.spec has-requires conflict-requires returns returns-2)

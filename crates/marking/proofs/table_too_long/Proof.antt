@@ -1,0 +1,23 @@
+use borrow.Author.Needs.{needs}
+use borrow.Author.Tests.{le-leb, lt-leb}
+use mathlib.Core.Path.{sym}
+use borrow.Author.Needs.{needs}
+use Rattle.marking.proofs.table_too_long.Statement.{statement}
+use Rattle.marking.proofs.table_too_long.Tie as tie
+use Rattle.marking.proofs.table_too_long.Reads as reads
+use Rattle.marking.proofs.table_too_long.Lts as lts
+use Rattle.marking.proofs.refused.Reads as refused-reads
+
+refused-requires : tie.Need-refused-requires
+refused-requires c κs = search needs
+
+returns : tie.Need-returns
+returns c =
+    rw (lt-leb _ _ (c .before .if1 .taken), sym (c .refused .ensures))
+
+returns-2 : tie.Need-returns-2
+returns-2 c =
+    rw (le-leb _ _ (c .if1 .left))
+
+pub table-too-long-spec : {M : Type 1} → statement M
+table-too-long-spec = tie.close (tie.spec refused-requires returns returns-2)
