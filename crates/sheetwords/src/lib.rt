@@ -324,7 +324,8 @@ fn fill(sheet: &[u8], words: &mut [u16], names: &mut [u32], heads: &mut [u64]) -
     }
 }
 
-fn clear_words(words: &mut [u16])
+// Every word of the buffer zero.
+pub fn clear_words(words: &mut [u16])
     ensures { λ _. ⌜ now (words .exit) ≡ padded (length (now (words .entry))) [] ⌝ }
 {
     let mut i: usize = 0;
@@ -334,7 +335,8 @@ fn clear_words(words: &mut [u16])
     }
 }
 
-fn clear_names(names: &mut [u32])
+// Every entry of the buffer zero.
+pub fn clear_names(names: &mut [u32])
     ensures { λ _. ⌜ now (names .exit) ≡ padded (length (now (names .entry))) [] ⌝ }
 {
     let mut i: usize = 0;
