@@ -253,6 +253,15 @@ impl<'a> Reader<'a> {
     {
         reading_at(self.sheet, self.place)
     }
+
+    // The reading at its place; the reader then stands at the next literal, and after the end or a refusal where it stood.
+    pub fn next(&mut self) -> Reading
+        ensures { λ r. ⌜ (r ≡ readingAt (now (now (self .entry) .sheet)) (now (self .entry) .place)) × (now (self .exit) .sheet ≡ now (self .entry) .sheet) × (now (self .exit) .place ≡ placeAfter (readingAt (now (now (self .entry) .sheet)) (now (self .entry) .place)) (now (self .entry) .place)) ⌝ }
+    {
+        let next = next_at(self.sheet, self.place);
+        self.place = next.place;
+        next.reading
+    }
 }
 
 // The first reading of a sheet.
