@@ -94,13 +94,11 @@ fn full_tables_cut_at_every_word() {
     let mut tally = Tally::default();
     for measured in MEASURED {
         let (n, words) = (measured.table)();
-        // A long table takes long: at every word near the ends, and at every seventh between.
-        let near_ends = |at: &usize| *at < 300 || *at + 300 > words.len() || *at % 7 == 0;
-        for at in (0..=words.len()).filter(near_ends) {
+        for at in 0..=words.len() {
             compare(n, &words[..at], &mut tally);
         }
     }
-    tally.expect(&["check ok", "check 4"], 1_000);
+    tally.expect(&["check ok", "check 4"], 5_000);
 }
 
 #[test]
