@@ -1,0 +1,61 @@
+-- The settled marking's values are those of the smallest well-supported model. Assumes nothing.
+use mathlib.Core.Bool.{Bool, true, false}
+use mathlib.Core.List.{List}
+use mathlib.Core.Path.{_≡_, refl, sym, ap, _∙_, subst, subst⁻¹, fun-ext}
+use Prim.Native.Nat.{ℕ, _≤_, _<_}
+use lib.Dec.{T, leb}
+use lib.ListN.{length, replicate}
+use borrow.Author.Tests.{leb-true}
+use Rattle.refusal.specs.Numbers.{too-many-atoms, value-room-too-small}
+use Rattle.words.specs.declared.Checked.the-variants.{Accepted, Refused}
+use Rattle.words.specs.Check.{asking, orElse, tableCheck, AcceptedTable}
+use Rattle.words.specs.Layout.{rulesOf}
+use Rattle.words.proofs.Steps.{asking-accepted, orElse-accepted}
+use Rattle.words.proofs.Laws.{accepted-one-rule}
+use Rattle.paper.specs.Rules.{Rule, positive}
+use Rattle.paper.specs.Definitions.{value}
+use Rattle.paper.specs.Marking.{Held, Marking, none, noMarks, settledValue}
+use Rattle.paper.proofs.Settled.{settledValue-is}
+use Rattle.paper.proofs.Smallest.{settled-smallest}
+use Rattle.bits.specs.Sets.{member}
+use Rattle.bits.proofs.Laws.{member-of-zeros}
+use Rattle.least.proofs.Marked.{none-held}
+use Rattle.marking.specs.Faults.{tableTooLong, roomTooSmall}
+use Rattle.picks.specs.Entries.{written}
+use Rattle.evaluation.specs.declared.EvaluationAnswer.{EvaluationAnswer}
+use Rattle.evaluation.specs.Evaluation.{evaluationFault, tooManyAtoms, EvaluationAllows}
+use Rattle.evaluation.specs.Rounds.{Begun, Settling}
+
+-- no marks, nothing held yet
+pub settling-starts : (R : List Rule) → Settling R (replicate 8 0) (replicate 16 0) true
+settling-starts R =
+    record {
+      begun =
+          record {
+            marks-length = refl;
+            held-length = refl;
+            made = 0;
+            marking = subst⁻¹ (λ (A : ℕ → Bool). Marking R 0 A) (fun-ext (member-of-zeros 8)) none;
+            held = λ l t. none-held R (member (replicate 8 0)) l t;
+          };
+      settled = λ e. absurd (mathlib.Core.Bool.true≢false e);
+    }
+
+pub evaluation-accepted : (N : ℕ) (t : List ℕ) (room : ℕ) → evaluationFault N t room ≡ Accepted → (N ≤ 512) × AcceptedTable N t × (N ≤ room)
+unfolding evaluationFault
+evaluation-accepted N t room e =
+    let p = orElse-accepted (tooManyAtoms N) (orElse (tableTooLong t) (orElse (roomTooSmall N room) (tableCheck N t))) e in
+    let q = orElse-accepted (tableTooLong t) (orElse (roomTooSmall N room) (tableCheck N t)) (p .1) in
+    let r = orElse-accepted (roomTooSmall N room) (tableCheck N t) (q .1) in
+    let a = asking-accepted (leb N 512) too-many-atoms Accepted (p .0) in
+    let s = asking-accepted (leb N room) value-room-too-small Accepted (r .0) in
+    (leb-true N 512 (a .0), r .1, leb-true N room (s .0))
+
+pub settled-evaluates : (N : ℕ) (t room m h room′ : List ℕ) → evaluationFault N t (length room) ≡ Accepted → Settling (rulesOf t) m h false
+    → room′ ≡ written (settledValue (member m) (member h)) N room → EvaluationAllows N t room EvaluationAnswer.Evaluated room′
+settled-evaluates N t room m h room′ e s w =
+    let a = evaluation-accepted N t (length room) e in
+    let q = s .settled refl in
+    let v : settledValue (member m) (member h) ≡ (λ x. value (member h) (positive x)) = fun-ext (settledValue-is (rulesOf t) (member m) (member h) (q .0) (q .1)) in
+    subst⁻¹ (EvaluationAllows N t room EvaluationAnswer.Evaluated) (w ∙ ap (λ f. written f N room) v)
+    (EvaluationAllows.evaluated e (member h) (settled-smallest (rulesOf t) (accepted-one-rule N t (a .1)) (s .begun .marking) (q .1) (member h) (q .0)))
