@@ -51,6 +51,9 @@ uint64_t probe_report(uint64_t n, const uint64_t marks[8], const uint16_t *table
 /* The number of marks; refuses 1, 17. */
 uint64_t probe_mark_count(uint64_t n, const uint64_t marks[8]);
 
+/* 0: the first N bytes of `values` are the values; refuses 1, 2, 3, words, 19. */
+uint64_t probe_evaluate(uint64_t n, const uint16_t *table, size_t words, uint8_t *values, size_t values_len);
+
 #ifdef __cplusplus
 }
 #endif

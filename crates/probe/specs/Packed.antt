@@ -11,6 +11,8 @@ use Rattle.picks.specs.declared.PickAnswer.{PickAnswer}
 use Rattle.picks.specs.declared.SettledAnswer.{SettledAnswer}
 use Rattle.picks.specs.declared.ReportAnswer.{ReportAnswer}
 use Rattle.picks.specs.declared.CountAnswer.{CountAnswer}
+use Rattle.evaluation.specs.declared.EvaluationAnswer.{EvaluationAnswer}
+use Rattle.evaluation.specs.Evaluation.{EvaluationAllows}
 
 -- 2^32 × number + place, taken modulo 2^64: nothing is lost while both are below 2^32
 unfoldable pub packed : Refusal → ℕ
@@ -47,6 +49,10 @@ abbrev pub countNumber : CountAnswer → ℕ
 countNumber (CountAnswer.Marks marks) = marks
 countNumber (CountAnswer.Refused r) = packed r
 
+abbrev pub evaluationNumber : EvaluationAnswer → ℕ
+evaluationNumber EvaluationAnswer.Evaluated = 0
+evaluationNumber (EvaluationAnswer.Refused r) = packed r
+
 -- the record's entries: what crates/picks allows, packed; N and marks afterwards where they are lent
 pub data FreshPacked (asked : ℕ) : ℕ → ℕ → List ℕ → Type 0 where
   answers : {a : FreshAnswer} {r : MarkRecord} → FreshAllows asked a r → FreshPacked asked (freshNumber a) (r .n) (r .marks)
@@ -62,3 +68,7 @@ pub data ReportPacked (r : MarkRecord) (t room : List ℕ) : ℕ → List ℕ �
 
 pub data CountPacked (r : MarkRecord) : ℕ → Type 0 where
   answers : {a : CountAnswer} → CountAllows r a → CountPacked r (countNumber a)
+
+-- whole evaluation: what crates/evaluation allows, packed
+pub data EvaluationPacked (N : ℕ) (t room : List ℕ) : ℕ → List ℕ → Type 0 where
+  answers : {a : EvaluationAnswer} {values : List ℕ} → EvaluationAllows N t room a values → EvaluationPacked N t room (evaluationNumber a) values

@@ -1,4 +1,5 @@
 // The entries for tests, over numbers and lent rows; tests/probe.h says how each answer is packed into one number.
+use evaluation::EvaluationAnswer;
 use picks::CountAnswer;
 use picks::FreshAnswer;
 use picks::MarkRecord;
@@ -11,7 +12,7 @@ use words::Checked;
 ghost use mathlib.Core.Path.{_≡_};
 ghost use Rattle.truth.specs.Connectives.{conjunction, disjunction, negated, implied};
 ghost use Rattle.words.specs.Check.{tableCheck};
-ghost use Rattle.probe.specs.Packed.{packed, truthNumber, checkedNumber, freshNumber, pickNumber, settledNumber, reportNumber, countNumber, FreshPacked, PickPacked, SettledPacked, ReportPacked, CountPacked};
+ghost use Rattle.probe.specs.Packed.{packed, truthNumber, checkedNumber, freshNumber, pickNumber, settledNumber, reportNumber, countNumber, evaluationNumber, FreshPacked, PickPacked, SettledPacked, ReportPacked, CountPacked, EvaluationPacked};
 
 // 2^32 times the number, plus the place.
 fn packed_refusal(r: Refusal) -> u64
@@ -170,4 +171,20 @@ pub extern "C" fn probe_mark_count(n: u64, marks: &[u64; 8]) -> u64
 {
     let m = *marks;
     count_number(picks::mark_count(MarkRecord { n, marks: m }))
+}
+
+fn evaluation_number(answer: EvaluationAnswer) -> u64
+    ensures { λ n. ⌜ n ≡ evaluationNumber answer ⌝ }
+{
+    match answer {
+        EvaluationAnswer::Evaluated => 0,
+        EvaluationAnswer::Refused(r) => packed_refusal(r),
+    }
+}
+
+#[no_mangle]
+pub extern "C" fn probe_evaluate(n: u64, table: &[u16], values: &mut [u8]) -> u64
+    ensures { λ r. ⌜ EvaluationPacked n (now (table .entry)) (now (values .entry)) r (now (values .exit)) ⌝ }
+{
+    evaluation_number(evaluation::evaluate(n, table, values))
 }

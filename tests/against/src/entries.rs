@@ -2,7 +2,7 @@
 
 use second::marking::{self, MarkRecord, Picked};
 use second::refusal::Refusal;
-use second::{table, truth};
+use second::{model, table, truth};
 
 use crate::guard::Guarded;
 
@@ -24,6 +24,7 @@ unsafe extern "C" {
     fn probe_settled(n: u64, marks: *const u64, table: *const u16, words: usize) -> u64;
     fn probe_report(n: u64, marks: *const u64, table: *const u16, words: usize, values: *mut u8, room: usize) -> u64;
     fn probe_mark_count(n: u64, marks: *const u64) -> u64;
+    fn probe_evaluate(n: u64, table: *const u16, words: usize, values: *mut u8, room: usize) -> u64;
 }
 
 /// A packed number taken apart: from 2^32 on a refusal.
@@ -46,6 +47,7 @@ pub trait Entries {
     fn settled(&self, record: &MarkRecord, words: &[u16]) -> Answer;
     fn report(&self, record: &MarkRecord, words: &[u16], values: &mut [u8]) -> Answer;
     fn mark_count(&self, record: &MarkRecord) -> Answer;
+    fn evaluate(&self, n: u64, words: &[u16], values: &mut [u8]) -> Answer;
 }
 
 /// The proved engine.
@@ -139,6 +141,15 @@ impl Entries for Engine {
         lent.unaltered(record);
         unpacked(answer)
     }
+
+    fn evaluate(&self, n: u64, words: &[u16], values: &mut [u8]) -> Answer {
+        let mut room = Guarded::new(values, 13);
+        let (to, length) = (room.row_mut().as_mut_ptr(), values.len());
+        let answer = unsafe { probe_evaluate(n, words.as_ptr(), words.len(), to, length) };
+        room.check();
+        values.copy_from_slice(room.row());
+        unpacked(answer)
+    }
 }
 
 /// The second implementation.
@@ -190,5 +201,9 @@ impl Entries for Second {
 
     fn mark_count(&self, record: &MarkRecord) -> Answer {
         marking::mark_count(record)
+    }
+
+    fn evaluate(&self, n: u64, words: &[u16], values: &mut [u8]) -> Answer {
+        model::evaluate(n, words, values).map(|()| 0)
     }
 }

@@ -114,6 +114,10 @@ impl Entries for Wrong {
             _ => answer,
         }
     }
+
+    fn evaluate(&self, n: u64, words: &[u16], values: &mut [u8]) -> Answer {
+        Second.evaluate(n, words, values)
+    }
 }
 
 fn trace(seed: u64) -> Trace {
