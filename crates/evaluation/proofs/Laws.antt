@@ -1,0 +1,71 @@
+-- What an outcome of evaluation tells: 19 never comes, and two allowed outcomes are equal. Assumes nothing.
+use mathlib.Core.Bool.{Bool}
+use mathlib.Core.List.{List}
+use mathlib.Core.Path.{_≡_, refl, sym, ap, _∙_, subst, subst⁻¹}
+use Prim.Native.Nat.{ℕ, _≤_, _<_}
+use native.Mathlib.Omega.{arith}
+use lib.Dec.{leb}
+use lib.ListN.{length}
+use Rattle.refusal.specs.declared.Refusal.{Refusal}
+use Rattle.refusal.specs.Numbers.{too-many-atoms, table-too-long, value-room-too-small, never-settled}
+use Rattle.words.specs.declared.Checked.{Checked}
+use Rattle.words.specs.declared.Checked.the-variants.{Accepted, Refused}
+use Rattle.words.specs.Check.{asking, orElse, tableCheck}
+use Rattle.words.specs.Layout.{rulesOf}
+use Rattle.words.proofs.Laws.{accepted-heads}
+use Rattle.words.proofs.Bounds.{Within, asking-within, orElse-within, check-within}
+use Rattle.paper.specs.Rules.{positive}
+use Rattle.paper.specs.Definitions.{Interpretation, value, Smallest}
+use Rattle.paper.specs.Marking.{Marks, Marking, Settled}
+use Rattle.paper.proofs.Order.{marking-count, all-marked→settled}
+use Rattle.paper.proofs.Counting.{count-full}
+use Rattle.paper.proofs.Smallest.{smallest-unique}
+use Rattle.marking.specs.Faults.{tableTooLong, roomTooSmall}
+use Rattle.picks.specs.Entries.{written}
+use Rattle.evaluation.specs.declared.EvaluationAnswer.{EvaluationAnswer}
+use Rattle.evaluation.specs.Evaluation.{evaluationFault, tooManyAtoms, EvaluationAllows, refused, never-settles, evaluated}
+use Rattle.evaluation.proofs.Evaluated.{evaluation-accepted}
+
+-- with N marks made an evaluation is settled: 19 can't happen
+pub always-settles : (N : ℕ) (t : List ℕ) (room : ℕ) → evaluationFault N t room ≡ Accepted → (A : Marks) → Marking (rulesOf t) N A → Settled (rulesOf t) A
+always-settles N t room e A m =
+    let a = evaluation-accepted N t room e in
+    let below = accepted-heads N t (a .1) in
+    all-marked→settled (rulesOf t) N below A (count-full N A (let c = marking-count (rulesOf t) N below m in omega arith))
+
+refused≢accepted : (f : Refusal) → Refused f ≡ Accepted → ⊥
+refused≢accepted f e = let z : _≡_ {A = ℕ} 0 1 = cc in omega arith
+
+pub refused-is : (N : ℕ) (t room room′ : List ℕ) (ans : EvaluationAnswer) (r : Refusal) → EvaluationAllows N t room ans room′ → ans ≡ EvaluationAnswer.Refused r
+    → (evaluationFault N t (length room) ≡ Refused r) × (room′ ≡ room)
+refused-is N t room room′ ans r (refused {f} e) p = let q : f ≡ r = cc in (e ∙ ap Refused q, refl)
+refused-is N t room room′ ans r (never-settles e A m n) p = absurd (n (always-settles N t (length room) e A m))
+refused-is N t room room′ ans r (evaluated e I s) p = let z : _≡_ {A = ℕ} 0 1 = cc in absurd (omega arith)
+
+pub evaluated-is : (N : ℕ) (t room room′ : List ℕ) (ans : EvaluationAnswer) → EvaluationAllows N t room ans room′ → ans ≡ EvaluationAnswer.Evaluated
+    → (evaluationFault N t (length room) ≡ Accepted) × ((I : Interpretation) × Smallest (rulesOf t) I × (room′ ≡ written (λ a. value I (positive a)) N room))
+evaluated-is N t room room′ ans (refused {f} e) p = let z : _≡_ {A = ℕ} 0 1 = cc in absurd (omega arith)
+evaluated-is N t room room′ ans (never-settles e A m n) p = let z : _≡_ {A = ℕ} 0 1 = cc in absurd (omega arith)
+evaluated-is N t room room′ ans (evaluated e I s) p = (e, (I, s, refl))
+
+-- two outcomes that the promise allows are equal
+pub evaluation-determined : (N : ℕ) (t room : List ℕ) {a b : EvaluationAnswer} {x y : List ℕ} → EvaluationAllows N t room a x → EvaluationAllows N t room b y → (a ≡ b) × (x ≡ y)
+evaluation-determined N t room (refused {f} e) (refused {f = g} e′) = let q : f ≡ g = cc in (ap EvaluationAnswer.Refused q, refl)
+evaluation-determined N t room (refused {f} e) (never-settles e′ A m n) = absurd (refused≢accepted f (sym e ∙ e′))
+evaluation-determined N t room (refused {f} e) (evaluated e′ I s) = absurd (refused≢accepted f (sym e ∙ e′))
+evaluation-determined N t room (never-settles e A m n) o = absurd (n (always-settles N t (length room) e A m))
+evaluation-determined N t room (evaluated e I s) (refused {f} e′) = absurd (refused≢accepted f (sym e′ ∙ e))
+evaluation-determined N t room (evaluated e I s) (never-settles e′ A m n) = absurd (n (always-settles N t (length room) e′ A m))
+evaluation-determined N t room (evaluated e I s) (evaluated e′ J s′) =
+    (refl, ap (λ (K : Interpretation). written (λ a. value K (positive a)) N room) (smallest-unique (rulesOf t) I J s s′))
+
+-- a refusal's number and place have bounds
+pub evaluation-within : (N : ℕ) (t : List ℕ) (room : ℕ) → Within (length t) (evaluationFault N t room)
+unfolding evaluationFault
+evaluation-within N t room =
+    orElse-within (length t) (tooManyAtoms N) (orElse (tableTooLong t) (orElse (roomTooSmall N room) (tableCheck N t)))
+    (asking-within (length t) (leb N 512) too-many-atoms Accepted (omega arith, omega arith) tt)
+    (orElse-within (length t) (tableTooLong t) (orElse (roomTooSmall N room) (tableCheck N t))
+    (asking-within (length t) (leb (length t) 8192) table-too-long Accepted (omega arith, omega arith) tt)
+    (orElse-within (length t) (roomTooSmall N room) (tableCheck N t)
+    (asking-within (length t) (leb N room) value-room-too-small Accepted (omega arith, omega arith) tt) (check-within N t)))

@@ -1,0 +1,103 @@
+use evaluation::EvaluationAnswer;
+use refusal::Refusal;
+use words::Checked;
+ghost use mathlib.Core.Path.{_≡_};
+ghost use mathlib.Core.List.{_++_};
+ghost use mathlib.Core.Bool.{Bool};
+ghost use Prim.Native.Nat.{_+_, _*_, _/_, _≤_, _<_};
+ghost use lib.ListN.{length, drop, getD};
+ghost use Rattle.host.specs.Bytes.{wordsIn, loneByte, wordAt};
+ghost use Rattle.host.specs.Evaluation.{hostFault, HostEvaluation, WordsEvaluation, tooLongAnswer, packed, Packable};
+
+// A word of two bytes, low byte first.
+fn word_of(bytes: &[u8], i: usize) -> u16
+    requires { ⌜ 2 * i + 1 < length (now bytes) ⌝ }
+    ensures { λ r. ⌜ r ≡ wordAt (now (bytes .entry)) i ⌝ }
+{
+    let low = wide(bytes[2 * i]);
+    let high = wide(bytes[2 * i + 1]);
+    low + 256 * high
+}
+
+fn wide(b: u8) -> u16
+    ensures { λ r. ⌜ (r ≡ b) × (r < 256) ⌝ }
+{
+    b as u16
+}
+
+// The whole words of the bytes; the rest of the buffer is untouched.
+fn fill_words(bytes: &[u8], words: &mut [u16])
+    requires { ⌜ length (now bytes) / 2 ≤ length (now words) ⌝ }
+    ensures { λ _. ⌜ now (words .exit) ≡ (wordsIn (now (bytes .entry)) ++ drop (length (now (bytes .entry)) / 2) (now (words .entry))) ⌝ }
+{
+    let m = bytes.len() / 2;
+    let mut i: usize = 0;
+    while i < m {
+        words[i] = word_of(bytes, i);
+        i += 1;
+    }
+}
+
+// 2^32 times the number, plus the place.
+pub fn pack(r: Refusal) -> u64
+    requires { ⌜ Packable r ⌝ }
+    ensures { λ a. ⌜ a ≡ packed r ⌝ }
+{
+    let number = r.number;
+    let place = r.place;
+    4294967296 * number + place
+}
+
+fn refused(number: u64, place: u64) -> Refusal
+    ensures { λ r. ⌜ r ≡ (record { number = number; place = place }) ⌝ }
+{
+    Refusal { number, place }
+}
+
+// The answer for words that were accepted or refused, before a lone byte is looked at.
+fn cut_short(n: u64, words: &[u16], room: u64) -> Refusal
+    requires { ⌜ length (now words) ≤ 8192 ⌝ }
+    ensures { λ r. ⌜ (hostFault n (now (words .entry)) Bool.true room ≡ Checked.Refused r) × Packable r ⌝ }
+{
+    if let Checked::Refused(r) = evaluation::evaluation_fault(n, words, room) {
+        return r;
+    }
+    refused(refusal::CUT_SHORT, words.len() as u64)
+}
+
+// Whole words, and no byte after them.
+fn evaluate_words(n: u64, words: &[u16], values: &mut [u8]) -> u64
+    requires { ⌜ length (now words) ≤ 8192 ⌝ }
+    ensures { λ a. ⌜ WordsEvaluation n (now (words .entry)) (now (values .entry)) a (now (values .exit)) ⌝ }
+{
+    match evaluation::evaluate(n, words, values) {
+        EvaluationAnswer::Evaluated => 0,
+        EvaluationAnswer::Refused(r) => pack(r),
+    }
+}
+
+// Too many words: 1 before 2.
+fn too_long(n: u64) -> u64
+    ensures { λ a. ⌜ a ≡ tooLongAnswer n ⌝ }
+{
+    if 512 < n {
+        return 4294967296 * refusal::TOO_MANY_ATOMS;
+    }
+    4294967296 * refusal::TABLE_TOO_LONG
+}
+
+// Evaluation over bytes: the answer is 0, or the refusal packed.
+pub fn evaluate_bytes(n: u64, table: &[u8], values: &mut [u8]) -> u64
+    ensures { λ a. ⌜ HostEvaluation n (now (table .entry)) (now (values .entry)) a (now (values .exit)) ⌝ }
+{
+    let m = table.len() / 2;
+    if 8192 < m {
+        return too_long(n);
+    }
+    let mut words = [0u16; 8192];
+    fill_words(table, &mut words);
+    if table.len() % 2 == 1 {
+        return pack(cut_short(n, &words[..m], values.len() as u64));
+    }
+    evaluate_words(n, &words[..m], values)
+}

@@ -1,0 +1,9 @@
+ghost use Rattle.host.specs.Evaluation.{HostEvaluation};
+
+// Evaluation for a host in C: include/simmerknot.h says how it is used.
+#[no_mangle]
+pub extern "C" fn simmerknot_evaluate(n: u64, table: &[u8], values: &mut [u8]) -> u64
+    ensures { λ a. ⌜ HostEvaluation n (now (table .entry)) (now (values .entry)) a (now (values .exit)) ⌝ }
+{
+    host::evaluate_bytes(n, table, values)
+}
