@@ -26,7 +26,7 @@ impl Fill for u64 {
 }
 
 /// A row to lend, with `before` guards in front of it and sixteen behind it.
-#[derive(Clone, Debug)]
+#[derive(Clone, Debug, PartialEq, Eq)]
 pub struct Guarded<T> {
     all: Vec<T>,
     before: usize,

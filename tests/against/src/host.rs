@@ -1,7 +1,5 @@
 //! The host's two entries, over bytes; each is here once libsimmerknot.a has it.
 
-use crate::guard::Guarded;
-
 #[cfg(simmerknot_evaluate)]
 unsafe extern "C" {
     fn simmerknot_evaluate(n: u64, table: *const u8, table_len: usize, values: *mut u8, values_len: usize) -> u64;
@@ -19,11 +17,6 @@ unsafe extern "C" {
         text: *mut u8,
         text_len: usize,
     ) -> u64;
-}
-
-/// Buffers of bytes that are lent, with guards around each; the number of guards in front decides the alignment.
-pub fn guarded(bytes: &[u8], before: usize) -> Guarded<u8> {
-    Guarded::new(bytes, before)
 }
 
 /// Evaluation, lent these very slices.
