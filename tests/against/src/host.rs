@@ -1,6 +1,5 @@
-//! The host's two entries, over bytes; each is here once libsimmerknot.a has it.
+//! The host's two entries, over bytes; the sheet entry is here once libsimmerknot.a has it.
 
-#[cfg(simmerknot_evaluate)]
 unsafe extern "C" {
     fn simmerknot_evaluate(n: u64, table: *const u8, table_len: usize, values: *mut u8, values_len: usize) -> u64;
 }
@@ -20,13 +19,11 @@ unsafe extern "C" {
 }
 
 /// Evaluation, lent these very slices.
-#[cfg(simmerknot_evaluate)]
 pub fn evaluate(n: u64, table: &[u8], values: &mut [u8]) -> u64 {
     unsafe { simmerknot_evaluate(n, table.as_ptr(), table.len(), values.as_mut_ptr(), values.len()) }
 }
 
 /// Evaluation with pointers that may be null where the length is 0.
-#[cfg(simmerknot_evaluate)]
 pub fn evaluate_nulls(n: u64) -> u64 {
     unsafe { simmerknot_evaluate(n, std::ptr::null(), 0, std::ptr::null_mut(), 0) }
 }

@@ -1,11 +1,8 @@
 //! The host's two entries through the C boundary: answers, every byte of every buffer, and guards around each.
 
-#![cfg(any(simmerknot_evaluate, simmerknot_sheet))]
-
 /// The places a buffer is lent from: at an even address and at an odd one.
 const BEFORE: [usize; 2] = [16, 13];
 
-#[cfg(simmerknot_evaluate)]
 mod evaluate {
     use super::BEFORE;
     use against::cases::{Tally, cases};
