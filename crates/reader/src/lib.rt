@@ -232,3 +232,41 @@ pub fn next_at(sheet: &[u8], place: usize) -> Next
         place: after,
     }
 }
+
+// The sheet reader: the sheet, and the place it has reached, where the next literal starts.
+pub struct Reader<'a> {
+    pub sheet: &'a [u8],
+    pub place: usize,
+}
+
+impl<'a> Reader<'a> {
+    // At the start of a sheet.
+    pub fn new(sheet: &'a [u8]) -> Reader<'a>
+        ensures { λ r. ⌜ (r .sheet ≡ sheet .entry) × (r .place ≡ 0) ⌝ }
+    {
+        Reader { sheet, place: 0 }
+    }
+
+    // The reading at its place.
+    pub fn peek(self) -> Reading
+        ensures { λ r. ⌜ r ≡ readingAt (now (self .entry .sheet)) (self .entry .place) ⌝ }
+    {
+        reading_at(self.sheet, self.place)
+    }
+
+    // The reading at its place; the reader then stands at the next literal, and after the end or a refusal where it stood.
+    pub fn next(&mut self) -> Reading
+        ensures { λ r. ⌜ (r ≡ readingAt (now (now (self .entry) .sheet)) (now (self .entry) .place)) × (now (self .exit) .sheet ≡ now (self .entry) .sheet) × (now (self .exit) .place ≡ placeAfter (readingAt (now (now (self .entry) .sheet)) (now (self .entry) .place)) (now (self .entry) .place)) ⌝ }
+    {
+        let next = next_at(self.sheet, self.place);
+        self.place = next.place;
+        next.reading
+    }
+}
+
+// The first reading of a sheet.
+pub fn first(sheet: &[u8]) -> Reading
+    ensures { λ r. ⌜ r ≡ readingAt (now (sheet .entry)) 0 ⌝ }
+{
+    Reader::new(sheet).peek()
+}
