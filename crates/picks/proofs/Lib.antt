@@ -1,2 +1,6 @@
 pub mod Written
 pub mod Counted
+pub mod Tracing
+pub mod Faultless
+pub mod Demand3
+pub mod Determined

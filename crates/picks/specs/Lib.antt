@@ -1,2 +1,3 @@
--- The entries of "Marking by picks".
+-- The entries of "Marking by picks", and lists of picks.
 pub mod Entries
+pub mod Traces

@@ -1,0 +1,78 @@
+-- Demand 3 about the entries' own promises: the order of work never matters. Assumes nothing.
+use mathlib.Core.Bool.{Bool, true, false, not}
+use mathlib.Core.List.{List}
+use mathlib.Core.Logic.{_↔_, _≢_}
+use mathlib.Core.Path.{_≡_, refl, sym, ap, _∙_, subst, subst⁻¹, fun-ext}
+use Prim.Native.Nat.{ℕ, _≤_, _<_, _+_}
+use native.Mathlib.Omega.{arith}
+use lib.Dec.{T, T-not}
+use lib.ListN.{length}
+use Rattle.words.specs.declared.Checked.{Checked}
+use Rattle.words.specs.declared.Checked.the-variants.{Accepted, Refused}
+use Rattle.words.specs.Check.{AcceptedTable}
+use Rattle.words.specs.Layout.{rulesOf}
+use Rattle.words.proofs.Laws.{accepted-heads, accepted-atoms, accepted-one-rule, accepted-length}
+use Rattle.paper.specs.Rules.{positive, _∈_}
+use Rattle.paper.specs.Definitions.{Interpretation, value, Smallest}
+use Rattle.paper.specs.Marking.{Marks, Marked, CanBeMarked, Settled, inconsistent, count, settledValue}
+use Rattle.paper.proofs.Existence.{pass-marks-one, passes-settle}
+use Rattle.paper.proofs.Smallest.{settledValue-is-smallest, marks-are-inconsistent}
+use Rattle.paper.proofs.Counting.{count-≡}
+use Rattle.bits.specs.Sets.{member, putIn}
+use Rattle.bits.proofs.Laws.{member-putIn-other}
+use Rattle.marking.specs.Faults.{recordFault, pickFault, reportFault}
+use Rattle.marking.proofs.Accepted.{good-record}
+use Rattle.picks.specs.declared.MarkRecord.{MarkRecord}
+use Rattle.picks.specs.declared.PickAnswer.{PickAnswer}
+use Rattle.picks.specs.declared.ReportAnswer.{ReportAnswer}
+use Rattle.picks.specs.declared.CountAnswer.{CountAnswer}
+use Rattle.picks.specs.Entries.{marksOf, noMarksFor, withMarks, PickAllows, ReportAllows, CountAllows, written}
+use Rattle.picks.specs.Traces.{Picks, PickPasses}
+use Rattle.picks.proofs.Tracing.{RecordFor, fresh-for, picks-pass, picks-marking, passes-passes, refused≢accepted}
+use Rattle.picks.proofs.Faultless.{reports, counts}
+
+-- a pick touches no other atom's mark, and not N
+pub only-its-own-atom : {r r′ : MarkRecord} {t : List ℕ} {a : ℕ} {answer : PickAnswer} → PickAllows r t a answer r′ → (r′ .n ≡ r .n) × ((b : ℕ) → b ≢ a → marksOf r′ b ≡ marksOf r b)
+only-its-own-atom (PickAllows.refused e) = (refl, λ b n. refl)
+only-its-own-atom (PickAllows.already-marked e m) = (refl, λ b n. refl)
+only-its-own-atom {r} {a = a} (PickAllows.marked e c) = (refl, λ b n. member-putIn-other (r .marks) a b n)
+only-its-own-atom (PickAllows.cannot-be-marked-now e u n) = (refl, λ b n′. refl)
+
+-- an accepted pick answers `marked` exactly when its atom can be marked
+pub marks-exactly-when-it-may : {r r′ : MarkRecord} {t : List ℕ} {a : ℕ} {answer : PickAnswer} → PickAllows r t a answer r′ → pickFault (r .n) (marksOf r) t a ≡ Accepted
+    → (answer ≡ PickAnswer.Marked) ↔ CanBeMarked (rulesOf t) (marksOf r) a
+marks-exactly-when-it-may (PickAllows.refused {f} e) h = absurd (refused≢accepted f (sym e ∙ h))
+marks-exactly-when-it-may {r} {a = a} (PickAllows.already-marked e m) h =
+    ((λ p. let z : _≡_ {A = ℕ} 0 1 = cc in absurd (omega arith)), λ c. absurd (T-not (marksOf r a) (c .unmarked) m))
+marks-exactly-when-it-may (PickAllows.marked e c) h = ((λ p. c), λ d. refl)
+marks-exactly-when-it-may (PickAllows.cannot-be-marked-now e u n) h = ((λ p. let z : _≡_ {A = ℕ} 0 1 = cc in absurd (omega arith)), λ c. absurd (n c))
+
+module _ (N : ℕ) (t : List ℕ) (accepted : AcceptedTable N t) {l : List ℕ} {r : MarkRecord} (picks : Picks t (noMarksFor N) l r) where
+  -- as soon as no atom can be marked, the report's values are those of the smallest well-supported model
+  pub report-after-picks : Settled (rulesOf t) (marksOf r) → (I : Interpretation) → Smallest (rulesOf t) I → (room : List ℕ) → N ≤ length room
+      → {answer : ReportAnswer} {room′ : List ℕ} → ReportAllows r t room answer room′ → (answer ≡ ReportAnswer.Reported) × (room′ ≡ written (λ a. value I (positive a)) N room)
+  report-after-picks s I i room fits o =
+      let q = picks-marking N t accepted picks in
+      let w = reports N t accepted r (q .0) s room fits o in (
+        w .0,
+        w .1 .2 ∙ ap (λ v. written v N room) (fun-ext (settledValue-is-smallest (rulesOf t) (accepted-one-rule N t accepted) (q .1 .1) s I i (w .1 .0) (w .1 .1))),
+      )
+
+  -- and the count is the number of inconsistent atoms
+  pub count-after-picks : Settled (rulesOf t) (marksOf r) → (I : Interpretation) → Smallest (rulesOf t) I → {answer : CountAnswer} → CountAllows r answer
+      → answer ≡ CountAnswer.Marks (count 512 (inconsistent I))
+  count-after-picks s I i o =
+      let q = picks-marking N t accepted picks in
+      counts N t accepted r (q .0) o
+      ∙ ap CountAnswer.Marks (count-≡ 512 (marksOf r) (inconsistent I) (λ a h. marks-are-inconsistent (rulesOf t) (accepted-one-rule N t accepted) (q .1 .1) s I i a))
+
+  -- until then a pass over all atoms, in any order, marks at least one
+  pub pass-marks-at-least-one : (Settled (rulesOf t) (marksOf r) → ⊥) → (order : List ℕ) → ((a : ℕ) → a < N → a ∈ order) → {r′ : MarkRecord} → Picks t r order r′
+      → (a : ℕ) × CanBeMarked (rulesOf t) (marksOf r) a × Marked (marksOf r′) a
+  pass-marks-at-least-one n order all {r′} p =
+      let q = picks-marking N t accepted picks in
+      pass-marks-one (rulesOf t) N (accepted-heads N t accepted) (marksOf r) (marksOf r′) order all n (picks-pass N t accepted (q .0) p .1)
+
+-- so N passes settle
+pub n-passes-settle : (N : ℕ) (t : List ℕ) → AcceptedTable N t → {r : MarkRecord} → PickPasses t N N (noMarksFor N) r → Settled (rulesOf t) (marksOf r)
+n-passes-settle N t accepted p = passes-settle (rulesOf t) N (accepted-heads N t accepted) (passes-passes N t accepted (fresh-for N) p .1)

@@ -1,0 +1,95 @@
+-- Picks by the entry's promise are passes of document 01's marking. Assumes nothing.
+use mathlib.Core.Bool.{Bool, true, false, not}
+use mathlib.Core.List.{List, [], _∷_}
+use mathlib.Core.Logic.{_⊎_, inl, inr, ⊎-elim, _↔_, _≢_}
+use mathlib.Core.Path.{_≡_, refl, sym, ap, _∙_, subst, subst⁻¹}
+use Prim.Native.Nat.{ℕ, zero, suc, _≤_, _<_, _*_}
+use native.Mathlib.Omega.{arith}
+use native.Mathlib.Decide.{decLt}
+use lib.Dec.{T, T-not, leb}
+use lib.ListN.{length, replicate}
+use borrow.Author.Tests.{lt-ltb}
+use Rattle.refusal.specs.declared.Refusal.{Refusal}
+use Rattle.words.specs.declared.Checked.{Checked}
+use Rattle.words.specs.declared.Checked.the-variants.{Accepted, Refused}
+use Rattle.words.specs.Check.{AcceptedTable, orElse, asking, tableCheck}
+use Rattle.words.specs.Layout.{rulesOf}
+use Rattle.words.proofs.Laws.{accepted-heads, accepted-atoms, accepted-one-rule, accepted-length}
+use Rattle.paper.specs.Rules.{Rule, _∈_}
+use Rattle.paper.specs.Marking.{Marks, Marked, Unmarked, CanBeMarked, Settled, Marking, none, mark, noMarks, Pass, end, marks, leaves, Passes, no-pass, then-pass}
+use Rattle.paper.proofs.Order.{can-be-marked-below, pass-marking}
+use Rattle.paper.proofs.Leasts.{mark-cases}
+use Rattle.bits.specs.Sets.{member, putIn}
+use Rattle.bits.proofs.Laws.{member-putIn, member-putIn-other, length-putIn, member-of-zeros}
+use Rattle.marking.specs.Faults.{recordFault, pickFault, atomFault}
+use Rattle.marking.proofs.Accepted.{pick-accepted, good-record}
+use Rattle.picks.specs.declared.MarkRecord.{MarkRecord}
+use Rattle.picks.specs.declared.PickAnswer.{PickAnswer}
+use Rattle.picks.specs.Entries.{marksOf, noMarksFor, PickAllows}
+use Rattle.picks.specs.Traces.{Picks, no-picks, then-picks, PickPasses}
+
+-- a record for N atoms: eight words, and marks below N
+pub record RecordFor (N : ℕ) (r : MarkRecord) : Type 0 where
+  pub same-n : r .n ≡ N
+  pub eight : length (r .marks) ≡ 8
+  pub below : (a : ℕ) → T (marksOf r a) → a < N
+
+pub fresh-for : (N : ℕ) → RecordFor N (noMarksFor N)
+fresh-for N = record { same-n = refl; eight = refl; below = λ a h. absurd (subst T (member-of-zeros 8 a) h) }
+
+pub fresh-marks : (N : ℕ) → marksOf (noMarksFor N) ≡ noMarks
+fresh-marks N = mathlib.Core.Path.fun-ext (member-of-zeros 8)
+
+pub refused≢accepted : (f : Refusal) → Refused f ≡ Accepted → ⊥
+refused≢accepted f e = let z : _≡_ {A = ℕ} 0 1 = cc in omega arith
+
+module _ (N : ℕ) (t : List ℕ) (accepted : AcceptedTable N t) where
+  -- an atom below N is not refused
+  pub pick-not-refused : (r : MarkRecord) → RecordFor N r → (a : ℕ) → a < N → pickFault (r .n) (marksOf r) t a ≡ Accepted
+  unfolding pickFault
+  pick-not-refused r g a lt =
+      rw (g .same-n, good-record N (marksOf r) (accepted-atoms N t accepted) (λ b h m. g .below b m), accepted, lt-ltb a N lt)
+
+  -- one pick by the promise is one step of a pass
+  step : {r r′ : MarkRecord} {a : ℕ} {answer : PickAnswer} → RecordFor N r → PickAllows r t a answer r′
+      → RecordFor N r′ × ((rest : List ℕ) (B : Marks) → Pass (rulesOf t) (marksOf r′) rest B → Pass (rulesOf t) (marksOf r) (a ∷ rest) B)
+  step {r} {a = a} g (PickAllows.refused {f} e) = (
+    g,
+    λ rest B p.
+        leaves (λ c. refused≢accepted f (sym e ∙ pick-not-refused r g a (can-be-marked-below (rulesOf t) N (accepted-heads N t accepted) (marksOf r) a c))) p,
+  )
+  step {r} {a = a} g (PickAllows.already-marked e m) = (g, λ rest B p. leaves (λ c. T-not (marksOf r a) (c .unmarked) m) p)
+  step {r} {a = a} g (PickAllows.cannot-be-marked-now e u n) = (g, λ rest B p. leaves n p)
+  step {r} {a = a} g (PickAllows.marked e c) =
+      let lt : a < N = can-be-marked-below (rulesOf t) N (accepted-heads N t accepted) (marksOf r) a c in
+      let le : N ≤ 512 = accepted-atoms N t accepted in
+      let len : length (r .marks) ≡ 8 = g .eight in
+      let m : member (putIn (r .marks) a) ≡ mark (marksOf r) a = member-putIn (r .marks) a (omega arith) in (
+        record {
+          same-n = g .same-n;
+          eight = length-putIn (r .marks) a ∙ g .eight;
+          below = λ b h. ⊎-elim (λ (x : b ≡ a). rw x lt) (λ (x : T (marksOf r b)). g .below b x) (mark-cases (marksOf r) a b (subst (λ (A : ℕ → Bool). T (A b)) m h));
+        },
+        λ rest B p. marks c (subst (λ (A : ℕ → Bool). Pass (rulesOf t) A rest B) m p),
+      )
+
+  -- a list of picks is a pass
+  pub picks-pass : {r r′ : MarkRecord} {l : List ℕ} → RecordFor N r → Picks t r l r′ → RecordFor N r′ × Pass (rulesOf t) (marksOf r) l (marksOf r′)
+  picks-pass g no-picks = (g, end)
+  picks-pass g (then-picks {r″ = r″} {rest = rest} p ps) =
+      let s = step g p in
+      let q = picks-pass (s .0) ps in
+      (q .0, s .1 rest (marksOf r″) (q .1))
+
+  pub passes-passes : {k : ℕ} {r r′ : MarkRecord} → RecordFor N r → PickPasses t N k r r′ → RecordFor N r′ × Passes (rulesOf t) N k (marksOf r) (marksOf r′)
+  passes-passes g PickPasses.no-pass = (g, no-pass)
+  passes-passes g (PickPasses.then-pass l ps all p) =
+      let q = passes-passes g ps in
+      let s = picks-pass (q .0) p in
+      (s .0, then-pass l (q .1) all (s .1))
+
+  -- from a fresh record: a marking of document 01
+  pub picks-marking : {r : MarkRecord} {l : List ℕ} → Picks t (noMarksFor N) l r → RecordFor N r × ((n : ℕ) × Marking (rulesOf t) n (marksOf r))
+  picks-marking {r} ps =
+      let q = picks-pass (fresh-for N) ps in
+      (q .0, pass-marking (rulesOf t) (subst⁻¹ (λ (A : ℕ → Bool). Marking (rulesOf t) 0 A) (fresh-marks N) none) (q .1))

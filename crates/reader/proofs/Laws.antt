@@ -1,0 +1,264 @@
+-- What the reader says of every sheet: what it tells of a literal, which refusals it gives, where it stands still, and that it ends.
+use mathlib.Core.Path.{_≡_, refl, sym, ap, ap₂, _∙_, subst}
+use mathlib.Core.Logic.{_⊎_, inl, inr}
+use mathlib.Core.List.{List, [], _∷_}
+use mathlib.Core.Bool.{Bool, true, false, cond, _||_}
+use Prim.Native.Nat.{ℕ, zero, suc, _+_, _-_, _^_, _<_, _≤_}
+use native.Mathlib.Numerals.{add-one}
+use native.Mathlib.Nat.{le-refl}
+use native.Mathlib.Omega.{arith}
+use lib.Dec.{ltb, leb, eqb}
+use lib.ListN.{length, getD, drop}
+use lib.Seq.{drop-cons}
+use borrow.Author.Tests.{ltb-true, ltb-false, leb-true, eqb-true}
+use Rattle.refusal.specs.declared.Refusal.{Refusal}
+use Rattle.refusal.specs.Numbers.{wrong-byte}
+use Rattle.reader.specs.declared.Role.{Role}
+use Rattle.reader.specs.declared.Role.the-variants.{Head, First, Further}
+use Rattle.reader.specs.declared.SheetLiteral.{SheetLiteral}
+use Rattle.reader.specs.declared.Next.{Next}
+use Rattle.reader.specs.declared.Reading.{Reading}
+use Rattle.reader.specs.declared.Reading.the-variants.{End, Refused, Literal}
+use Rattle.reader.specs.Sheet.{byteAt, isTab, isLineEnd, isSpace, isMinus, startsName, isDigit, continuesName, nameRun, mayFollow, byteBefore}
+use Rattle.reader.specs.Readings.{asking, literal, endedName, nameAt, literalAt, lineAt, readingAfter, readingAt, placeAfter, nextAt}
+use Rattle.reader.proofs.Runs.{inside-by, name-inside, run-on}
+
+pub refused-is-no-literal : (r : Refusal) (l : SheetLiteral) → Refused r ≡ Literal l → ⊥
+refused-is-no-literal r l e = let z : _≡_ {A = ℕ} 0 1 = cc in omega arith
+
+pub end-is-no-literal : (l : SheetLiteral) → End ≡ Literal l → ⊥
+end-is-no-literal l e = let z : _≡_ {A = ℕ} 0 1 = cc in omega arith
+
+asking-literal : (b : Bool) (r : Refusal) (rest : Reading) (l : SheetLiteral) → asking b r rest ≡ Literal l → (b ≡ true) × (rest ≡ Literal l)
+asking-literal true r rest l e = (refl, e)
+asking-literal false r rest l e = absurd (refused-is-no-literal r l e)
+
+-- the role that the byte before gives
+abbrev pub RoleAfter : ℕ → Role → Type 0
+RoleAfter b Head = b ≡ 10
+RoleAfter b First = b ≡ 9
+RoleAfter b Further = b ≡ 32
+
+-- what is known of a literal that was read with a role
+pub record Named (s : List ℕ) (p : ℕ) (role : Role) (l : SheetLiteral) : Type 0 where
+  pub starts-at : p ≤ l .start
+  pub starts-by : l .start ≤ p + 1
+  pub not-empty : 1 ≤ l .len
+  pub at-most-24 : l .len ≤ 24
+  pub inside : l .start + l .len < length s
+  pub followed : mayFollow (l .role) (byteAt s (l .start + l .len)) ≡ true
+  pub of-role : l .role ≡ role
+
+pub record LiteralRead (s : List ℕ) (p : ℕ) (l : SheetLiteral) : Type 0 where
+  pub sheet-fits : length s ≤ 65536
+  pub in-role : RoleAfter (byteBefore s p) (l .role)
+  pub named : Named s p (l .role) l
+
+nothing-follows-the-end : (role : Role) → mayFollow role 0 ≡ false
+unfolding mayFollow
+nothing-follows-the-end Head = refl
+nothing-follows-the-end First = refl
+nothing-follows-the-end Further = refl
+
+starts-continues : (b : ℕ) → startsName b ≡ true → continuesName b ≡ true
+unfolding continuesName
+starts-continues b e = ap (λ (x : Bool). x || (isDigit b || (eqb b 95 || eqb b 46))) e
+
+run-not-empty : (s : List ℕ) (q : ℕ) → startsName (byteAt s q) ≡ true → 1 ≤ nameRun (drop q s)
+run-not-empty s q e = omega (arith, run-on s q (starts-continues (byteAt s q) e))
+
+named-ended : (s : List ℕ) (p q n : ℕ) (negated : Bool) (role : Role) (l : SheetLiteral) → p ≤ q → q ≤ p + 1 → 1 ≤ n
+    → endedName s q n negated role ≡ Literal l → Named s p role l
+unfolding endedName
+named-ended s p q n negated role l h h′ some e =
+    let first = asking-literal (leb n 24) _ _ l e in
+    let second = asking-literal (mayFollow role (byteAt s (q + n))) _ _ l (first .1) in
+    let same : record { negated = negated; start = q; len = n; role = role } ≡ l = cc (second .1) in
+    subst (Named s p role) same
+    (record {
+      starts-at = h;
+      starts-by = h′;
+      not-empty = some;
+      at-most-24 = leb-true n 24 (first .0);
+      inside = inside-by (mayFollow role) (nothing-follows-the-end role) s (q + n) (second .0);
+      followed = second .0;
+      of-role = refl;
+    })
+
+named-name : (s : List ℕ) (p q : ℕ) (negated : Bool) (role : Role) (l : SheetLiteral) → p ≤ q → q ≤ p + 1
+    → nameAt s q negated role ≡ Literal l → Named s p role l
+unfolding nameAt
+named-name s p q negated role l h h′ e =
+    let first = asking-literal (startsName (byteAt s q)) _ _ l e in
+    named-ended s p q (nameRun (drop q s)) negated role l h h′ (run-not-empty s q (first .0)) (first .1)
+
+named-literal : (s : List ℕ) (p : ℕ) (role : Role) (l : SheetLiteral) → literalAt s p role ≡ Literal l → Named s p role l
+unfolding literalAt
+named-literal s p role l e = by (isMinus (byteAt s p)) e
+  where
+    by : (b : Bool) → cond b (nameAt s (p + 1) true role) (nameAt s p false role) ≡ Literal l → Named s p role l
+    by true f = named-name s p (p + 1) true role l (omega arith) (omega arith) f
+    by false f = named-name s p p false role l (omega arith) (omega arith) f
+
+-- a literal's role is the one that it was read with
+in-role-of : (s : List ℕ) (p b : ℕ) (role : Role) (l : SheetLiteral) → length s ≤ 65536 → byteBefore s p ≡ b → RoleAfter b role
+    → literalAt s p role ≡ Literal l → LiteralRead s p l
+in-role-of s p b role l fits before r e =
+    let named = named-literal s p role l e in
+    record {
+      sheet-fits = fits;
+      in-role = subst (λ (x : Role). RoleAfter (byteBefore s p) x) (sym (named .of-role)) (subst (λ (x : ℕ). RoleAfter x role) (sym before) r);
+      named = subst (λ (x : Role). Named s p x l) (sym (named .of-role)) named;
+    }
+
+line-literal : (s : List ℕ) (p : ℕ) (l : SheetLiteral) → lineAt s p ≡ Literal l → literalAt s p Head ≡ Literal l
+unfolding lineAt
+line-literal s p l e = by (eqb p (length s)) e
+  where
+    by : (b : Bool) → cond b End (literalAt s p Head) ≡ Literal l → literalAt s p Head ≡ Literal l
+    by true f = absurd (end-is-no-literal l f)
+    by false f = f
+
+-- what is known where the reading is a literal
+pub literal-read : (s : List ℕ) (p : ℕ) (l : SheetLiteral) → readingAt s p ≡ Literal l → LiteralRead s p l
+unfolding readingAt readingAfter
+literal-read s p l e =
+    let first = asking-literal (leb (length s) 65536) _ _ l e in
+    let second = asking-literal (leb p (length s)) _ _ l (first .1) in
+    line (leb-true (length s) 65536 (first .0)) (isLineEnd (byteBefore s p)) refl (second .1)
+  where
+    space : length s ≤ 65536 → (b : Bool) → isSpace (byteBefore s p) ≡ b
+        → cond b (literalAt s p Further) (Refused (wrong-byte p)) ≡ Literal l → LiteralRead s p l
+    space fits true q f = in-role-of s p 32 Further l fits (eqb-true (byteBefore s p) 32 q) refl f
+    space fits false q f = absurd (refused-is-no-literal _ l f)
+
+    tab : length s ≤ 65536 → (b : Bool) → isTab (byteBefore s p) ≡ b
+        → cond b (literalAt s p First) (cond (isSpace (byteBefore s p)) (literalAt s p Further) (Refused (wrong-byte p))) ≡ Literal l → LiteralRead s p l
+    tab fits true q f = in-role-of s p 9 First l fits (eqb-true (byteBefore s p) 9 q) refl f
+    tab fits false q f = space fits (isSpace (byteBefore s p)) refl f
+
+    line : length s ≤ 65536 → (b : Bool) → isLineEnd (byteBefore s p) ≡ b
+        → cond b (lineAt s p) (cond (isTab (byteBefore s p)) (literalAt s p First) (cond (isSpace (byteBefore s p)) (literalAt s p Further) (Refused (wrong-byte p)))) ≡ Literal l → LiteralRead s p l
+    line fits true q f = in-role-of s p 10 Head l fits (eqb-true (byteBefore s p) 10 q) refl (line-literal s p l f)
+    line fits false q f = tab fits (isTab (byteBefore s p)) refl f
+
+-- the byte before the next literal is the one that follows this literal
+pub next-after : (s : List ℕ) (p : ℕ) (l : SheetLiteral) → byteBefore s (placeAfter (Literal l) p) ≡ byteAt s (l .start + l .len)
+unfolding byteBefore placeAfter
+next-after s p l = ap (byteBefore s) (add-one (l .start + l .len))
+
+-- places increase, and stay within the sheet
+pub place-grows : (s : List ℕ) (p : ℕ) (l : SheetLiteral) → readingAt s p ≡ Literal l → p < placeAfter (Literal l) p
+unfolding placeAfter
+place-grows s p l e = let r = literal-read s p l e .named in omega arith
+
+pub place-inside : (s : List ℕ) (p : ℕ) (l : SheetLiteral) → readingAt s p ≡ Literal l → placeAfter (Literal l) p ≤ length s
+unfolding placeAfter
+place-inside s p l e = let r = literal-read s p l e .named in omega arith
+
+pub place-fits : (s : List ℕ) (p : ℕ) (r : Reading) → p < 2 ^ 64 → r ≡ readingAt s p → placeAfter r p < 2 ^ 64
+unfolding placeAfter
+place-fits s p End h e = h
+place-fits s p (Refused r) h e = h
+place-fits s p (Literal l) h e =
+    omega (arith, literal-read s p l (sym e) .sheet-fits, literal-read s p l (sym e) .named .inside)
+
+-- document 01: "The reader itself gives only 8, 10 and 11"
+abbrev pub ReadersNumber : ℕ → Type 0
+ReadersNumber n = (n ≡ 8) ⊎ ((n ≡ 10) ⊎ (n ≡ 11))
+
+abbrev pub GivesOnly : Reading → Type 0
+GivesOnly End = Unit {0}
+GivesOnly (Refused r) = ReadersNumber (r .number)
+GivesOnly (Literal l) = Unit {0}
+
+asking-gives : (b : Bool) (r : Refusal) (rest : Reading) → ReadersNumber (r .number) → GivesOnly rest → GivesOnly (asking b r rest)
+asking-gives true r rest h g = g
+asking-gives false r rest h g = h
+
+cond-gives : (b : Bool) (x y : Reading) → GivesOnly x → GivesOnly y → GivesOnly (cond b x y)
+cond-gives true x y g h = g
+cond-gives false x y g h = h
+
+ended-gives : (s : List ℕ) (q n : ℕ) (negated : Bool) (role : Role) → GivesOnly (endedName s q n negated role)
+unfolding endedName
+ended-gives s q n negated role =
+    asking-gives (leb n 24) _ _ (inr (inr refl)) (asking-gives (mayFollow role (byteAt s (q + n))) _ _ (inr (inl refl)) tt)
+
+name-gives : (s : List ℕ) (q : ℕ) (negated : Bool) (role : Role) → GivesOnly (nameAt s q negated role)
+unfolding nameAt
+name-gives s q negated role =
+    asking-gives (startsName (byteAt s q)) _ _ (inr (inl refl)) (ended-gives s q (nameRun (drop q s)) negated role)
+
+literal-gives : (s : List ℕ) (p : ℕ) (role : Role) → GivesOnly (literalAt s p role)
+unfolding literalAt
+literal-gives s p role = cond-gives (isMinus (byteAt s p)) _ _ (name-gives s (p + 1) true role) (name-gives s p false role)
+
+line-gives : (s : List ℕ) (p : ℕ) → GivesOnly (lineAt s p)
+unfolding lineAt
+line-gives s p = cond-gives (eqb p (length s)) _ _ tt (literal-gives s p Head)
+
+pub gives-only-8-10-11 : (s : List ℕ) (p : ℕ) → GivesOnly (readingAt s p)
+unfolding readingAt readingAfter
+gives-only-8-10-11 s p =
+    asking-gives (leb (length s) 65536) _ _ (inl refl)
+    (asking-gives (leb p (length s)) _ _ (inr (inl refl))
+    (cond-gives (isLineEnd (byteBefore s p)) _ _ (line-gives s p)
+    (cond-gives (isTab (byteBefore s p)) _ _ (literal-gives s p First)
+    (cond-gives (isSpace (byteBefore s p)) _ _ (literal-gives s p Further) (inr (inl refl))))))
+
+-- a reading that is no literal: the end or a refusal
+abbrev pub NoLiteral : Reading → Type 0
+NoLiteral End = Unit {0}
+NoLiteral (Refused r) = Unit {0}
+NoLiteral (Literal l) = ⊥
+
+stays : (r : Reading) (p : ℕ) → NoLiteral r → placeAfter r p ≡ p
+unfolding placeAfter
+stays End p h = refl
+stays (Refused r) p h = refl
+stays (Literal l) p h = absurd h
+
+-- after the end or a refusal it gives the same reading again, at the same place
+pub same-again : (s : List ℕ) (p : ℕ) → NoLiteral (readingAt s p) → nextAt s (nextAt s p .place) ≡ nextAt s p
+unfolding nextAt
+same-again s p h = ap (nextAt s) (stays (readingAt s p) p h)
+
+-- the place that the reader has reached after so many readings from a place
+abbrev pub reached : List ℕ → ℕ → ℕ → ℕ
+reached s p zero = p
+reached s p (suc n) = reached s (nextAt s p .place) n
+
+reached-stays : (s : List ℕ) (n p : ℕ) → NoLiteral (readingAt s p) → reached s p n ≡ p
+unfolding nextAt
+reached-stays s zero p h = refl
+reached-stays s (suc n) p h = ap (λ (q : ℕ). reached s q n) (stays (readingAt s p) p h) ∙ reached-stays s n p h
+
+-- past the end there is no literal
+none-past-the-end : (s : List ℕ) (p : ℕ) → length s < p → (r : Reading) → readingAt s p ≡ r → NoLiteral r
+none-past-the-end s p h End e = tt
+none-past-the-end s p h (Refused r) e = tt
+none-past-the-end s p h (Literal l) e = let r = literal-read s p l e .named in absurd (omega arith)
+
+turn : (s : List ℕ) (n p : ℕ) → ((q : ℕ) → length s < q + n → NoLiteral (readingAt s (reached s q n))) → length s < p + suc n
+    → (r : Reading) → readingAt s p ≡ r → NoLiteral (readingAt s (reached s (placeAfter r p) n))
+turn s n p onward h End e =
+    let still = subst NoLiteral (sym e) tt in
+    subst (λ (q : ℕ). NoLiteral (readingAt s q)) (sym (ap (λ (q : ℕ). reached s q n) (stays End p tt) ∙ reached-stays s n p still)) still
+turn s n p onward h (Refused r) e =
+    let still = subst NoLiteral (sym e) tt in
+    subst (λ (q : ℕ). NoLiteral (readingAt s q)) (sym (ap (λ (q : ℕ). reached s q n) (stays (Refused r) p tt) ∙ reached-stays s n p still)) still
+turn s n p onward h (Literal l) e = onward (placeAfter (Literal l) p) (omega (arith, place-grows s p l e))
+
+ends-within : (s : List ℕ) (n p : ℕ) → length s < p + n → NoLiteral (readingAt s (reached s p n))
+unfolding nextAt
+ends-within s zero p h = none-past-the-end s p (omega arith) (readingAt s p) refl
+ends-within s (suc n) p h = turn s n p (ends-within s n) h (readingAt s p) refl
+
+-- from the start it reads literal after literal, and has ended after as many readings as there are bytes, and one
+pub reader-ends : (s : List ℕ) → NoLiteral (readingAt s (reached s 0 (length s + 1)))
+reader-ends s = ends-within s (length s + 1) 0 (omega arith)
+
+-- two readings that the promise allows are equal
+pub reading-determined : (s : List ℕ) (p : ℕ) (r r′ : Next) → r ≡ nextAt s p → r′ ≡ nextAt s p → r ≡ r′
+reading-determined s p r r′ e e′ = e ∙ sym e′

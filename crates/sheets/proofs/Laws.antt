@@ -1,0 +1,73 @@
+-- Two outcomes that the sheet entry allows are equal.
+use mathlib.Core.Path.{_≡_, refl, sym, ap, ap₂, _∙_, subst}
+use mathlib.Core.List.{List, _++_}
+use Prim.Native.Nat.{ℕ, _<_, _≤_}
+use native.Mathlib.Nat.{le-refl}
+use native.Mathlib.Omega.{arith}
+use lib.ListN.{length, drop}
+use Rattle.refusal.specs.declared.Refusal.{Refusal}
+use Rattle.refusal.specs.Numbers.{text-room-too-small}
+use Rattle.paper.specs.Rules.{Rule}
+use Rattle.paper.specs.Definitions.{Interpretation, Smallest}
+use Rattle.paper.specs.Marking.{Marks, Marking, Settled}
+use Rattle.paper.proofs.Smallest.{smallest-unique}
+use Rattle.words.specs.Layout.{wordsOf, rulesOf}
+use Rattle.words.proofs.Laws.{accepted-atoms}
+use Rattle.evaluation.proofs.Laws.{always-settles}
+use Rattle.sheetwords.specs.Sheets.{Sofar, Outcome, accepted, refused, sheetOutcome}
+use Rattle.sheetwords.specs.Buffers.{padded}
+use Rattle.sheetwords.proofs.Turns.{accepted-is-not-refused, accepted-once}
+use Rattle.sheetwords.proofs.Laws.{sheet-table-accepted, sheet-table-rules}
+use Rattle.sheets.specs.declared.SheetAnswer.{SheetAnswer}
+use Rattle.sheets.specs.SheetEntry.{sheetOf, counts, SheetAllows}
+use Rattle.sheets.proofs.Values.{no-fault}
+
+-- with N marks made an evaluation of a sheet is settled: 19 can't happen
+pub sheet-settles : (s : List ℕ) (wordRoom nameRoom : ℕ) (x : Sofar) → sheetOutcome s wordRoom nameRoom ≡ accepted x
+    → (A : Marks) → Marking (x .rules) (length (x .names)) A → Settled (x .rules) A
+sheet-settles s wordRoom nameRoom x e A m =
+    let table = sheet-table-accepted s wordRoom nameRoom x e in
+    let N = length (x .names) in
+    subst (λ (R : List Rule). Settled R A) (sheet-table-rules x)
+    (always-settles N (wordsOf (x .rules)) N (no-fault N (wordsOf (x .rules)) N (le-refl N) table) A
+    (subst (λ (R : List Rule). Marking R N A) (sym (sheet-table-rules x)) m))
+
+-- the words, names and value sheet of an accepted sheet
+same-sheet : (s : List ℕ) (wordRoom nameRoom : ℕ) (x y : Sofar) (I J : Interpretation) → sheetOutcome s wordRoom nameRoom ≡ accepted x
+    → sheetOutcome s wordRoom nameRoom ≡ accepted y → Smallest (x .rules) I → Smallest (y .rules) J → (x ≡ y) × (I ≡ J)
+same-sheet s wordRoom nameRoom x y I J e f a b =
+    let same = accepted-once x y (sym e ∙ f) in
+    (same, smallest-unique (x .rules) I J a (subst (λ (z : Sofar). Smallest (z .rules) J) (sym same) b))
+
+abbrev Equal : SheetAnswer → SheetAnswer → List ℕ → List ℕ → List ℕ → List ℕ → List ℕ → List ℕ → Type 0
+Equal a b ws ws′ ns ns′ text text′ = (a ≡ b) × (ws ≡ ws′) × (ns ≡ ns′) × (text ≡ text′)
+
+module _ (s : List ℕ) (wordRoom nameRoom : ℕ) (text : List ℕ) where
+  pub sheet-determined : {a b : SheetAnswer} {ws ws′ ns ns′ t t′ : List ℕ} → SheetAllows s wordRoom nameRoom text a ws ns t
+      → SheetAllows s wordRoom nameRoom text b ws′ ns′ t′ → Equal a b ws ws′ ns ns′ t t′
+  sheet-determined (SheetAllows.never-settles {x} e A m n) o = absurd (n (sheet-settles s wordRoom nameRoom x e A m))
+  sheet-determined (SheetAllows.refused {f} e) (SheetAllows.never-settles {x} e′ A m n) = absurd (n (sheet-settles s wordRoom nameRoom x e′ A m))
+  sheet-determined (SheetAllows.refused {f} e) (SheetAllows.refused {f = g} e′) =
+      let same : f ≡ g = (let z : refused f ≡ refused g = sym e ∙ e′ in cc) in (ap SheetAnswer.Refused same, refl, refl, refl)
+  sheet-determined (SheetAllows.refused {f} e) (SheetAllows.does-not-fit {x} e′ i h) = absurd (accepted-is-not-refused x f (sym e′ ∙ e))
+  sheet-determined (SheetAllows.refused {f} e) (SheetAllows.accepted {x} e′ i h) = absurd (accepted-is-not-refused x f (sym e′ ∙ e))
+  sheet-determined (SheetAllows.does-not-fit {x} {I} e i h) (SheetAllows.never-settles {x = y} e′ A m n) = absurd (n (sheet-settles s wordRoom nameRoom y e′ A m))
+  sheet-determined (SheetAllows.does-not-fit {x} {I} e i h) (SheetAllows.refused {f} e′) = absurd (accepted-is-not-refused x f (sym e ∙ e′))
+  sheet-determined (SheetAllows.does-not-fit {x} {I} e i h) (SheetAllows.does-not-fit {x = y} {I = J} e′ j h′) =
+      let same = same-sheet s wordRoom nameRoom x y I J e e′ i j in
+      (ap₂ (λ (z : Sofar) (K : Interpretation). SheetAnswer.Refused (text-room-too-small (length (sheetOf s z K)))) (same .0) (same .1), refl, refl, refl)
+  sheet-determined (SheetAllows.does-not-fit {x} {I} e i h) (SheetAllows.accepted {x = y} {I = J} e′ j h′) =
+      let same = same-sheet s wordRoom nameRoom x y I J e e′ i j in
+      absurd (omega (arith, h, h′, ap₂ (λ (z : Sofar) (K : Interpretation). length (sheetOf s z K)) (same .0) (same .1)))
+  sheet-determined (SheetAllows.accepted {x} {I} e i h) (SheetAllows.never-settles {x = y} e′ A m n) = absurd (n (sheet-settles s wordRoom nameRoom y e′ A m))
+  sheet-determined (SheetAllows.accepted {x} {I} e i h) (SheetAllows.refused {f} e′) = absurd (accepted-is-not-refused x f (sym e ∙ e′))
+  sheet-determined (SheetAllows.accepted {x} {I} e i h) (SheetAllows.does-not-fit {x = y} {I = J} e′ j h′) =
+      let same = same-sheet s wordRoom nameRoom x y I J e e′ i j in
+      absurd (omega (arith, h, h′, ap₂ (λ (z : Sofar) (K : Interpretation). length (sheetOf s z K)) (same .0) (same .1)))
+  sheet-determined (SheetAllows.accepted {x} {I} e i h) (SheetAllows.accepted {x = y} {I = J} e′ j h′) =
+      let same = same-sheet s wordRoom nameRoom x y I J e e′ i j in (
+        ap₂ (λ (z : Sofar) (K : Interpretation). counts s z K) (same .0) (same .1),
+        ap (λ (z : Sofar). padded wordRoom (wordsOf (z .rules))) (same .0),
+        ap (λ (z : Sofar). padded nameRoom (z .names)) (same .0),
+        ap₂ (λ (z : Sofar) (K : Interpretation). sheetOf s z K ++ drop (length (sheetOf s z K)) text) (same .0) (same .1),
+      )

@@ -1,0 +1,4 @@
+-- What callers cite: Laws. The others serve the entry.
+pub mod Values
+pub mod Entry
+pub mod Laws

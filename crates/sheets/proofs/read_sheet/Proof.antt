@@ -1,0 +1,66 @@
+use borrow.Author.Needs.{needs}
+use mathlib.Core.Path.{refl, sym, ap, _∙_}
+use native.Mathlib.Omega.{arith}
+use Rattle.sheets.proofs.Entry.{holds-there, refuses, allows-there}
+use Rattle.sheets.proofs.read_sheet.Statement.{statement}
+use Rattle.sheets.proofs.read_sheet.Tie as tie
+
+slice-aggregate-read-words : tie.Need-slice-aggregate-read-words
+slice-aggregate-read-words c = search needs
+
+read-words-requires : tie.Need-read-words-requires
+read-words-requires c κs = search needs
+
+enum-known-filled : tie.Need-enum-known-filled
+enum-known-filled c = search needs
+
+slice-aggregate-value-and-print : tie.Need-slice-aggregate-value-and-print
+slice-aggregate-value-and-print c = search needs
+
+value-and-print-requires : tie.Need-value-and-print-requires
+value-and-print-requires c κs =
+    holds-there (c .before .before .before .before .before .before .before .before .before .before .before .before .before .before .before .before .before .before .before .before .args .sheet .now) _ _ _ _ _ _ (c .before .before .before .before .before .before .before .before .before .before .before .before .read-words .ensures) _ _ (c .before .before .before .before .before .filled .given .1) (c .before .before .before .before .before .before .before .before .before .before .before .before .read-words .kept .1 .0) (c .before .before .before .before .before .before .before .before .before .before .before .before .read-words .kept .1 .1 .0)
+
+enum-known-filled-2 : tie.Need-enum-known-filled-2
+enum-known-filled-2 c = search needs
+
+same-length : tie.Need-same-length
+same-length c = search needs
+
+same-length-2 : tie.Need-same-length-2
+same-length-2 c = search needs
+
+same-length-3 : tie.Need-same-length-3
+same-length-3 c = search needs
+
+returns : tie.Need-returns
+returns c =
+    allows-there (c .before .before .before .before .before .before .before .before .before .before .before .before .before .before .before .before .before .before .before .before .before .before .before .before .before .before .before .args .sheet .now) _ _ _ _ _ _ _ _ _ (c .before .before .before .before .before .before .before .before .before .before .before .before .before .before .before .before .before .before .before .read-words .kept .1 .0) (c .before .before .before .before .before .before .before .before .before .before .before .before .before .before .before .before .before .before .before .read-words .kept .1 .1 .0) (c .before .before .before .before .before .before .value-and-print .ensures)
+
+same-length-4 : tie.Need-same-length-4
+same-length-4 c = search needs
+
+same-length-5 : tie.Need-same-length-5
+same-length-5 c = search needs
+
+returns-2 : tie.Need-returns-2
+returns-2 c =
+    refuses (c .before .before .before .before .before .before .before .before .before .before .before .before .before .before .before .before .args .sheet .now) _ _ _ _ _ _ (c .before .before .before .before .before .before .before .before .read-words .ensures) _ _ (c .before .filled2 .given .1)
+
+pub read-sheet-spec : {M : Type 1} → statement M
+read-sheet-spec =
+    tie.close
+    (tie.spec
+    slice-aggregate-read-words
+    read-words-requires
+    enum-known-filled
+    slice-aggregate-value-and-print
+    value-and-print-requires
+    enum-known-filled-2
+    same-length
+    same-length-2
+    same-length-3
+    returns
+    same-length-4
+    same-length-5
+    returns-2)

@@ -1,0 +1,57 @@
+-- Document 01, the sheet entry: the answer, and every word, name entry and byte afterwards.
+use mathlib.Core.Path.{_≡_}
+use mathlib.Core.List.{List, [], _++_}
+use Prim.Native.Nat.{ℕ, _≤_, _<_}
+use lib.ListN.{length, getD, drop}
+use Rattle.refusal.specs.declared.Refusal.{Refusal}
+use Rattle.refusal.specs.Numbers.{never-settled, text-room-too-small}
+use Rattle.paper.specs.Table1.{code}
+use Rattle.paper.specs.Rules.{positive}
+use Rattle.paper.specs.Definitions.{Interpretation, value, Smallest}
+use Rattle.paper.specs.Marking.{Marks, Marking, Settled}
+use Rattle.bits.specs.Sets.{member}
+use Rattle.words.specs.Layout.{wordsOf}
+use Rattle.sheetwords.specs.Sheets.{Sofar, isHead, sheetOutcome}
+use Rattle.sheetwords.specs.Sheets as sheet
+use Rattle.sheetwords.specs.Buffers.{padded}
+use Rattle.valuesheet.specs.ValueSheet.{valueSheet}
+use Rattle.sheets.specs.declared.SheetAnswer.{SheetAnswer}
+
+-- the value sheet of what a sheet has given, by a model
+abbrev pub sheetOf : List ℕ → Sofar → Interpretation → List ℕ
+sheetOf s x I = valueSheet s (isHead (x .rules)) (λ a. code (value I (positive a))) (x .names)
+
+-- N, the words filled and the value sheet's length
+abbrev pub counts : List ℕ → Sofar → Interpretation → SheetAnswer
+counts s x I = SheetAnswer.Accepted (record { atoms = length (x .names); words = length (wordsOf (x .rules)); bytes = length (sheetOf s x I) })
+
+-- a sheet, the lengths of its word and name buffers, and its text room: the answer, and the three afterwards
+pub data SheetAllows (s : List ℕ) (wordRoom nameRoom : ℕ) (text : List ℕ) : SheetAnswer → List ℕ → List ℕ → List ℕ → Type 0 where
+  refused : {f : Refusal} → sheetOutcome s wordRoom nameRoom ≡ sheet.refused f
+      → SheetAllows s wordRoom nameRoom text (SheetAnswer.Refused f) (padded wordRoom []) (padded nameRoom []) text
+  never-settles : {x : Sofar} → sheetOutcome s wordRoom nameRoom ≡ sheet.accepted x
+      → (A : Marks) → Marking (x .rules) (length (x .names)) A → (Settled (x .rules) A → ⊥)
+      → SheetAllows s wordRoom nameRoom text (SheetAnswer.Refused never-settled) (padded wordRoom []) (padded nameRoom []) text
+  does-not-fit : {x : Sofar} {I : Interpretation} → sheetOutcome s wordRoom nameRoom ≡ sheet.accepted x → Smallest (x .rules) I
+      → length text < length (sheetOf s x I)
+      → SheetAllows s wordRoom nameRoom text (SheetAnswer.Refused (text-room-too-small (length (sheetOf s x I)))) (padded wordRoom []) (padded nameRoom []) text
+  accepted : {x : Sofar} {I : Interpretation} → sheetOutcome s wordRoom nameRoom ≡ sheet.accepted x → Smallest (x .rules) I
+      → length (sheetOf s x I) ≤ length text
+      → SheetAllows s wordRoom nameRoom text (counts s x I) (padded wordRoom (wordsOf (x .rules))) (padded nameRoom (x .names))
+      (sheetOf s x I ++ drop (length (sheetOf s x I)) text)
+
+-- the buffers hold an accepted sheet of n atoms and w words, and its heads
+pub record Holding (s : List ℕ) (wordRoom nameRoom n w : ℕ) (ws ns heads : List ℕ) : Type 0 where
+  pub sofar : Sofar
+  pub is : sheetOutcome s wordRoom nameRoom ≡ sheet.accepted sofar
+  pub words-are : ws ≡ padded wordRoom (wordsOf (sofar .rules))
+  pub names-are : ns ≡ padded nameRoom (sofar .names)
+  pub heads-are : (j : ℕ) → member heads j ≡ isHead (sofar .rules) j
+  pub atoms : n ≡ length (sofar .names)
+  pub filled : w ≡ length (wordsOf (sofar .rules))
+
+-- the first n values are those of the smallest well-supported model of the sheet's rules
+pub record Valued (s : List ℕ) (wordRoom nameRoom n : ℕ) (values : List ℕ) : Type 0 where
+  pub model : Interpretation
+  pub smallest : (x : Sofar) → sheetOutcome s wordRoom nameRoom ≡ sheet.accepted x → Smallest (x .rules) model
+  pub codes : (a : ℕ) → a < n → getD values a 0 ≡ code (value model (positive a))

@@ -1,0 +1,104 @@
+use evaluation::EvaluationAnswer;
+use refusal::Refusal;
+use sheetwords::Filled;
+use valuesheet::Printed;
+ghost use mathlib.Core.Path.{_≡_};
+ghost use Prim.Native.Nat.{ℕ, _≤_};
+ghost use lib.ListN.{length, getD};
+ghost use Rattle.paper.specs.Table1.{code};
+ghost use Rattle.paper.specs.Rules.{positive};
+ghost use Rattle.paper.specs.Definitions.{value};
+ghost use Rattle.sheets.specs.SheetEntry.{SheetAllows, Holding, Valued};
+
+// An accepted sheet: N, the words filled, and the value sheet's length.
+pub struct SheetCounts {
+    pub atoms: usize,
+    pub words: usize,
+    pub bytes: usize,
+}
+
+pub enum SheetAnswer {
+    Accepted(SheetCounts),
+    Refused(Refusal),
+}
+
+// Prints the value sheet, or clears the buffers where it does not fit.
+fn print_or_clear(
+    sheet: &[u8],
+    words: &mut [u16],
+    names: &mut [u32],
+    heads: &[u64],
+    n: usize,
+    w: usize,
+    values: &[u8],
+    text: &mut [u8],
+) -> SheetAnswer
+    requires { ⌜ Holding (now sheet) (length (now words)) (length (now names)) n w (now words) (now names) (now heads) ⌝ }
+    requires { ⌜ Valued (now sheet) (length (now words)) (length (now names)) n (now values) ⌝ }
+    ensures { λ r. ⌜ SheetAllows (now (sheet .entry)) (length (now (words .entry))) (length (now (names .entry))) (now (text .entry)) r (now (words .exit)) (now (names .exit)) (now (text .exit)) ⌝ }
+{
+    let printed = valuesheet::print(sheet, names, n, heads, values, text);
+    match printed {
+        Printed::Whole(bytes) => SheetAnswer::Accepted(SheetCounts {
+            atoms: n,
+            words: w,
+            bytes,
+        }),
+        Printed::Refused(r) => {
+            sheetwords::clear_words(words);
+            sheetwords::clear_names(names);
+            SheetAnswer::Refused(r)
+        }
+    }
+}
+
+// Evaluates the table that the sheet has given, and prints.
+fn value_and_print(
+    sheet: &[u8],
+    words: &mut [u16],
+    names: &mut [u32],
+    heads: &[u64],
+    n: usize,
+    w: usize,
+    text: &mut [u8],
+) -> SheetAnswer
+    requires { ⌜ Holding (now sheet) (length (now words)) (length (now names)) n w (now words) (now names) (now heads) ⌝ }
+    ensures { λ r. ⌜ SheetAllows (now (sheet .entry)) (length (now (words .entry))) (length (now (names .entry))) (now (text .entry)) r (now (words .exit)) (now (names .exit)) (now (text .exit)) ⌝ }
+{
+    let mut values = [0u8; 512];
+    let answer = evaluation::evaluate(n as u64, &words[..w], &mut values);
+    match answer {
+        EvaluationAnswer::Evaluated => print_or_clear(
+            sheet,
+            words,
+            names,
+            heads,
+            n,
+            w,
+            &values,
+            text,
+        ),
+        EvaluationAnswer::Refused(r) => {
+            sheetwords::clear_words(words);
+            sheetwords::clear_names(names);
+            SheetAnswer::Refused(r)
+        }
+    }
+}
+
+// The sheet entry: reads a sheet into words and name entries, and prints every value in the smallest well-supported model of its rules.
+pub fn read_sheet(
+    sheet: &[u8],
+    words: &mut [u16],
+    names: &mut [u32],
+    text: &mut [u8],
+) -> SheetAnswer
+    ensures { λ r. ⌜ SheetAllows (now (sheet .entry)) (length (now (words .entry))) (length (now (names .entry))) (now (text .entry)) r (now (words .exit)) (now (names .exit)) (now (text .exit)) ⌝ }
+{
+    let mut heads = [0u64; 16];
+    let filled = sheetwords::read_words(sheet, words, names, &mut heads);
+    match filled {
+        Filled::Read(n, w) => value_and_print(sheet, words, names, &heads, n, w, text),
+        Filled::Refused(r) => SheetAnswer::Refused(r),
+    }
+}

@@ -1,0 +1,66 @@
+-- Taking one literal, by the buffers.
+use mathlib.Core.Path.{_≡_, refl, sym, ap, ap₂, _∙_, subst}
+use mathlib.Core.List.{List}
+use mathlib.Core.Bool.{Bool, true, false, not}
+use Prim.Native.Nat.{ℕ, _+_, _≤_}
+use native.Mathlib.Omega.{arith}
+use lib.Dec.{leb}
+use borrow.Author.Tests.{leb-true, not-true}
+use Rattle.refusal.specs.declared.Refusal.{Refusal}
+use Rattle.words.specs.declared.Checked.{Checked}
+use Rattle.words.specs.declared.Checked.the-variants.{Accepted, Refused}
+use Rattle.words.specs.Check.{asking}
+use Rattle.words.proofs.Steps.{asking-accepted, refused-is-not-accepted}
+use Rattle.reader.specs.declared.SheetLiteral.{SheetLiteral}
+use Rattle.sheetwords.specs.declared.Counts.{Counts}
+use Rattle.sheetwords.specs.declared.Taken.{Taken}
+use Rattle.sheetwords.specs.declared.Taken.the-variants.{On, Off}
+use Rattle.sheetwords.specs.Sheets.{faultWith, codeFor}
+use Rattle.sheetwords.specs.Buffers.{atomIn, codeIn, faultBy, faultIn, Put, Took}
+
+-- what a literal without a fault leaves
+pub record Allowed (names : ℕ) (repeated : Bool) (body words : ℕ) : Type 0 where
+  pub names-fit : names ≤ 512
+  pub not-repeated : repeated ≡ false
+  pub body-fits : body ≤ 64
+  pub words-fit : words ≤ 8192
+
+pub faultless-allowed : (names : ℕ) (repeated : Bool) (body words p q : ℕ) → faultWith names repeated body words p q ≡ Accepted
+    → Allowed names repeated body words
+unfolding faultWith
+faultless-allowed names repeated body words p q e =
+    let a = asking-accepted (leb names 512) _ _ e in
+    let b = asking-accepted (not repeated) _ _ (a .1) in
+    let c = asking-accepted (leb body 64) _ _ (b .1) in
+    let d = asking-accepted (leb words 8192) _ _ (c .1) in
+    record {
+      names-fit = leb-true names 512 (a .0);
+      not-repeated = not-true repeated (b .0);
+      body-fits = leb-true body 64 (c .0);
+      words-fit = leb-true words 8192 (d .0);
+    }
+
+module _ (s : List ℕ) (p : ℕ) (l : SheetLiteral) (k : Counts) (ws names heads : List ℕ) (a c : ℕ) (f : Checked)
+    (number : a ≡ atomIn s k names l) (code : c ≡ codeFor (l .negated) a) (fault : f ≡ faultBy a c k ws heads p l) (ws′ names′ heads′ : List ℕ) where
+  code-is : c ≡ codeIn s k names l
+  code-is = code ∙ ap (codeFor (l .negated)) number
+
+  fault-is : faultIn s k ws names heads p l ≡ f
+  fault-is = sym (fault ∙ ap₂ (λ (x y : ℕ). faultBy x y k ws heads p l) number code-is)
+
+  pub took-off : (x : Refusal) → f ≡ Refused x → Took s p l k ws names heads (Off x) ws′ names′ heads′
+  took-off x e = record {
+    faultless = λ h. absurd (refused-is-not-accepted x (sym e ∙ sym fault-is ∙ h));
+    faulty = λ y h. let same : Refused x ≡ Refused y = sym e ∙ sym fault-is ∙ h in (cc);
+  }
+
+  pub took-on : (k′ : Counts) → f ≡ Accepted → Put a c l k ws names heads k′ ws′ names′ heads′ → Took s p l k ws names heads (On k′) ws′ names′ heads′
+  took-on k′ e put = record {
+    faultless = λ h. (
+      k′,
+      refl,
+      subst (λ (y : ℕ). Put (atomIn s k names l) y l k ws names heads k′ ws′ names′ heads′) code-is
+          (subst (λ (x : ℕ). Put x c l k ws names heads k′ ws′ names′ heads′) number put),
+    );
+    faulty = λ y h. absurd (refused-is-not-accepted y (sym h ∙ fault-is ∙ e));
+  }

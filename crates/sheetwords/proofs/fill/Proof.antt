@@ -1,0 +1,129 @@
+use borrow.Author.Needs.{needs}
+use mathlib.Core.Path.{_≡_, refl, sym, _∙_}
+use Prim.Native.Nat.{_+_, _-_}
+use native.Mathlib.Omega.{arith}
+use lib.ListN.{length}
+use Rattle.sheetwords.specs.Sheets.{sheetFrom, nothing}
+use Rattle.sheetwords.proofs.Filling.{Filling, starts}
+use Rattle.sheetwords.proofs.Turns.{name-fits, ends, stops, faults, goes-on, falls}
+use Rattle.sheetwords.proofs.fill.Statement.{statement}
+use Rattle.sheetwords.proofs.fill.Tie as tie
+
+abbrev Inv-loop : tie.InvT-loop
+Inv-loop sheet words₀ names₀ heads₀ counts₀ place₀ words names heads counts place =
+    Filling sheet (sheetFrom (length sheet + 1) sheet 0 nothing) place counts words names heads × (length words ≡ length words₀) × (length names ≡ length names₀) × (length heads ≡ length heads₀)
+
+abbrev μ-loop : tie.MeasureT-loop
+μ-loop sheet words₀ names₀ heads₀ counts₀ place₀ words names heads counts place =
+    length sheet - place
+
+loop-holds : tie.Need-loop-holds Inv-loop μ-loop
+loop-holds c =
+    (starts (c .before .before .before .before .args .sheet .now) _ (c .before .before .before .before .args .words .now) (c .before .before .before .before .args .names .now) (c .before .before .before .before .args .heads .now) refl (c .before .before .before .before .pre .0) (c .before .before .before .before .pre .1 .0) (c .before .before .before .before .pre .1 .1 .0) (c .before .before .before .before .pre .1 .1 .1 .0) (c .before .before .before .before .pre .1 .1 .1 .1), refl, refl, refl)
+
+next-at-requires : tie.Need-next-at-requires Inv-loop μ-loop
+next-at-requires c κs = search needs
+
+enum-told : tie.Need-enum-told Inv-loop μ-loop
+enum-told c = search needs
+
+same-length : tie.Need-same-length Inv-loop μ-loop
+same-length c =
+    c .before .before .before .loop .inv .1
+
+same-length-2 : tie.Need-same-length-2 Inv-loop μ-loop
+same-length-2 c =
+    c .before .before .before .loop .inv .2
+
+same-length-3 : tie.Need-same-length-3 Inv-loop μ-loop
+same-length-3 c =
+    c .before .before .before .loop .inv .3
+
+returns : tie.Need-returns Inv-loop μ-loop
+returns c =
+    ends (c .before .before .before .before .before .before .before .before .args .sheet .now) _ (c .before .before .before .loop .place) (c .before .before .before .loop .counts) (c .before .before .before .loop .words) (c .before .before .before .loop .names) (c .before .before .before .loop .heads) (c .before .before .before .loop .inv .0) _ (c .before .before .next-at .ensures) (c .enum-told .given .1)
+
+enum-known-reading : tie.Need-enum-known-reading Inv-loop μ-loop
+enum-known-reading c = search needs
+
+same-length-4 : tie.Need-same-length-4 Inv-loop μ-loop
+same-length-4 c =
+    c .before .before .before .before .loop .inv .1
+
+same-length-5 : tie.Need-same-length-5 Inv-loop μ-loop
+same-length-5 c =
+    c .before .before .before .before .loop .inv .2
+
+same-length-6 : tie.Need-same-length-6 Inv-loop μ-loop
+same-length-6 c =
+    c .before .before .before .before .loop .inv .3
+
+returns-2 : tie.Need-returns-2 Inv-loop μ-loop
+returns-2 c =
+    stops (c .before .before .before .before .before .before .before .before .before .args .sheet .now) _ (c .before .before .before .before .loop .place) (c .before .before .before .before .loop .counts) (c .before .before .before .before .loop .words) (c .before .before .before .before .loop .names) (c .before .before .before .before .loop .heads) (c .before .before .before .before .loop .inv .0) _ (c .before .before .before .next-at .ensures) _ (c .before .reading .given .1)
+
+enum-known-reading-2 : tie.Need-enum-known-reading-2 Inv-loop μ-loop
+enum-known-reading-2 c = search needs
+
+take-literal-requires : tie.Need-take-literal-requires Inv-loop μ-loop
+take-literal-requires c κs =
+    (c .before .before .before .before .before .before .before .loop .inv .0 .kept .room, name-fits (c .before .before .before .before .before .before .before .before .before .before .before .before .args .sheet .now) (c .before .before .before .before .before .before .before .loop .place) _ _ (c .before .before .before .before .before .before .next-at .ensures) (c .before .before .before .before .reading2 .given .1))
+
+enum-known-taken : tie.Need-enum-known-taken Inv-loop μ-loop
+enum-known-taken c = search needs
+
+enum-known-taken-2 : tie.Need-enum-known-taken-2 Inv-loop μ-loop
+enum-known-taken-2 c = search needs
+
+same-length-7 : tie.Need-same-length-7 Inv-loop μ-loop
+same-length-7 c =
+    c .before .before .before .before .before .before .before .before .before .take-literal .kept .1 .0 ∙ c .before .before .before .before .before .before .before .before .before .before .before .before .before .before .before .before .before .loop .inv .1
+
+same-length-8 : tie.Need-same-length-8 Inv-loop μ-loop
+same-length-8 c =
+    c .before .before .before .before .before .before .before .before .before .take-literal .kept .1 .1 .0 ∙ c .before .before .before .before .before .before .before .before .before .before .before .before .before .before .before .before .before .loop .inv .2
+
+same-length-9 : tie.Need-same-length-9 Inv-loop μ-loop
+same-length-9 c =
+    c .before .before .before .before .before .before .before .before .before .take-literal .kept .1 .1 .1 .0 ∙ c .before .before .before .before .before .before .before .before .before .before .before .before .before .before .before .before .before .loop .inv .3
+
+returns-3 : tie.Need-returns-3 Inv-loop μ-loop
+returns-3 c =
+    faults (c .before .before .before .before .before .before .before .before .before .before .before .before .before .before .before .before .before .before .before .before .before .before .args .sheet .now) _ (c .before .before .before .before .before .before .before .before .before .before .before .before .before .before .before .before .before .loop .place) (c .before .before .before .before .before .before .before .before .before .before .before .before .before .before .before .before .before .loop .counts) (c .before .before .before .before .before .before .before .before .before .before .before .before .before .before .before .before .before .loop .words) (c .before .before .before .before .before .before .before .before .before .before .before .before .before .before .before .before .before .loop .names) (c .before .before .before .before .before .before .before .before .before .before .before .before .before .before .before .before .before .loop .heads) (c .before .before .before .before .before .before .before .before .before .before .before .before .before .before .before .before .before .loop .inv .0) _ (c .before .before .before .before .before .before .before .before .before .before .before .before .before .before .before .before .next-at .ensures) _ (c .before .before .before .before .before .before .before .before .before .before .before .before .before .before .reading2 .given .1) _ _ _ _ (c .before .before .before .before .before .before .before .before .before .take-literal .ensures) _ (c .before .taken2 .given .1)
+
+loop-less : tie.Need-loop-less Inv-loop μ-loop
+loop-less c =
+    falls (c .before .before .before .before .before .before .before .before .before .before .before .before .before .before .before .before .before .before .before .before .before .before .args .sheet .now) _ (c .before .before .before .before .before .before .before .before .before .before .before .before .before .before .before .before .before .loop .place) (c .before .before .before .before .before .before .before .before .before .before .before .before .before .before .before .before .before .loop .counts) (c .before .before .before .before .before .before .before .before .before .before .before .before .before .before .before .before .before .loop .words) (c .before .before .before .before .before .before .before .before .before .before .before .before .before .before .before .before .before .loop .names) (c .before .before .before .before .before .before .before .before .before .before .before .before .before .before .before .before .before .loop .heads) (c .before .before .before .before .before .before .before .before .before .before .before .before .before .before .before .before .before .loop .inv .0) _ (c .before .before .before .before .before .before .before .before .before .before .before .before .before .before .before .before .next-at .ensures) _ (c .before .before .before .before .before .before .before .before .before .before .before .before .before .before .reading2 .given .1) _ _ _ _ (c .before .before .before .before .before .before .before .before .before .take-literal .ensures)
+
+loop-again : tie.Need-loop-again Inv-loop μ-loop
+loop-again c =
+    (goes-on (c .before .before .before .before .before .before .before .before .before .before .before .before .before .before .before .before .before .before .before .before .before .before .args .sheet .now) _ (c .before .before .before .before .before .before .before .before .before .before .before .before .before .before .before .before .before .loop .place) (c .before .before .before .before .before .before .before .before .before .before .before .before .before .before .before .before .before .loop .counts) (c .before .before .before .before .before .before .before .before .before .before .before .before .before .before .before .before .before .loop .words) (c .before .before .before .before .before .before .before .before .before .before .before .before .before .before .before .before .before .loop .names) (c .before .before .before .before .before .before .before .before .before .before .before .before .before .before .before .before .before .loop .heads) (c .before .before .before .before .before .before .before .before .before .before .before .before .before .before .before .before .before .loop .inv .0) _ (c .before .before .before .before .before .before .before .before .before .before .before .before .before .before .before .before .next-at .ensures) _ (c .before .before .before .before .before .before .before .before .before .before .before .before .before .before .reading2 .given .1) _ _ _ _ (c .before .before .before .before .before .before .before .before .before .take-literal .ensures) _ (c .before .taken .given .1), c .before .before .before .before .before .before .before .before .before .take-literal .kept .1 .0 ∙ c .before .before .before .before .before .before .before .before .before .before .before .before .before .before .before .before .before .loop .inv .1, c .before .before .before .before .before .before .before .before .before .take-literal .kept .1 .1 .0 ∙ c .before .before .before .before .before .before .before .before .before .before .before .before .before .before .before .before .before .loop .inv .2, c .before .before .before .before .before .before .before .before .before .take-literal .kept .1 .1 .1 .0 ∙ c .before .before .before .before .before .before .before .before .before .before .before .before .before .before .before .before .before .loop .inv .3)
+
+pub fill-spec : {M : Type 1} → statement M
+fill-spec =
+    tie.close
+    (tie.spec
+    Inv-loop
+    μ-loop
+    loop-holds
+    next-at-requires
+    enum-told
+    same-length
+    same-length-2
+    same-length-3
+    returns
+    enum-known-reading
+    same-length-4
+    same-length-5
+    same-length-6
+    returns-2
+    enum-known-reading-2
+    take-literal-requires
+    enum-known-taken
+    enum-known-taken-2
+    same-length-7
+    same-length-8
+    same-length-9
+    returns-3
+    loop-less
+    loop-again)
