@@ -6,7 +6,7 @@
  *
  * Every answer is one number. From 2^32 on it is a refusal, 2^32 x number + place; below 2^32 it is what the entry has to
  * say, as written beside it. The sum is taken modulo 2^64: it loses nothing, as numbers are at most 20 and places of these
- * entries at most 8,192. No wrapper turns a refusal into anything else; crates/probe/specs/Packed.antt has the same codes
+ * entries below 2^32. No wrapper turns a refusal into anything else; crates/probe/specs/Packed.antt has the same codes
  * and crates/probe/src/lib.rt the proved promises.
  *
  * Every number of 64 bits may be handed as a truth code, N or atom. A table is 16-bit words and how many; with 0 of them any
@@ -53,6 +53,16 @@ uint64_t probe_mark_count(uint64_t n, const uint64_t marks[8]);
 
 /* 0: the first N bytes of `values` are the values; refuses 1, 2, 3, words, 19. */
 uint64_t probe_evaluate(uint64_t n, const uint16_t *table, size_t words, uint8_t *values, size_t values_len);
+
+/* The reading at `*place`: 0 the end, 2 a head, 4 first of a group, 6 further in a group, 1 more if it is negated; refuses
+ * 8, 10, 11. `*place` is the next place afterwards, `*start` and `*len` the name's place and length, 0 where there is none. */
+uint64_t probe_reading(const uint8_t *sheet, size_t sheet_len, size_t *place, size_t *start, size_t *len);
+
+/* The value sheet's length; refuses 8, 9, literals (10 to 14 and 7), 19, 15. `*atoms` and `*filled` are N and the words
+ * filled, 0 after a refusal. Buffer lengths are in entries. */
+uint64_t probe_sheet(const uint8_t *sheet, size_t sheet_len, uint16_t *words, size_t words_len,
+                     uint32_t *names, size_t names_len, uint8_t *text, size_t text_len,
+                     size_t *atoms, size_t *filled);
 
 #ifdef __cplusplus
 }

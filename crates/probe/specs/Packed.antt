@@ -1,6 +1,7 @@
 -- An answer as one number: below 2^32 what it says, from there on a refusal.
 use Prim.Native.Nat.{ℕ, _+_, _*_, _%_, _^_}
 use mathlib.Core.List.{List}
+use mathlib.Core.Bool.{cond}
 use Rattle.refusal.specs.declared.Refusal.{Refusal}
 use Rattle.truth.specs.declared.Truth.{Truth}
 use Rattle.words.specs.declared.Checked.{Checked}
@@ -13,6 +14,11 @@ use Rattle.picks.specs.declared.ReportAnswer.{ReportAnswer}
 use Rattle.picks.specs.declared.CountAnswer.{CountAnswer}
 use Rattle.evaluation.specs.declared.EvaluationAnswer.{EvaluationAnswer}
 use Rattle.evaluation.specs.Evaluation.{EvaluationAllows}
+use Rattle.reader.specs.declared.Role.{Role}
+use Rattle.reader.specs.declared.SheetLiteral.{SheetLiteral}
+use Rattle.reader.specs.declared.Reading.{Reading}
+use Rattle.sheets.specs.declared.SheetAnswer.{SheetAnswer}
+use Rattle.sheets.specs.SheetEntry.{SheetAllows}
 
 -- 2^32 × number + place, taken modulo 2^64: nothing is lost while both are below 2^32
 unfoldable pub packed : Refusal → ℕ
@@ -72,3 +78,46 @@ pub data CountPacked (r : MarkRecord) : ℕ → Type 0 where
 -- whole evaluation: what crates/evaluation allows, packed
 pub data EvaluationPacked (N : ℕ) (t room : List ℕ) : ℕ → List ℕ → Type 0 where
   answers : {a : EvaluationAnswer} {values : List ℕ} → EvaluationAllows N t room a values → EvaluationPacked N t room (evaluationNumber a) values
+
+-- a literal by its role and sign
+abbrev pub roleNumber : Role → ℕ
+roleNumber Role.Head = 2
+roleNumber Role.First = 4
+roleNumber Role.Further = 6
+
+abbrev pub literalNumber : SheetLiteral → ℕ
+literalNumber l = cond (l .negated) (roleNumber (l .role) + 1) (roleNumber (l .role))
+
+-- a reading: 0 at the end
+abbrev pub readingNumber : Reading → ℕ
+readingNumber Reading.End = 0
+readingNumber (Reading.Refused r) = packed r
+readingNumber (Reading.Literal l) = literalNumber l
+
+-- the place and the length of its name, 0 where there is none
+abbrev pub nameStart : Reading → ℕ
+nameStart Reading.End = 0
+nameStart (Reading.Refused r) = 0
+nameStart (Reading.Literal l) = l .start
+
+abbrev pub nameLength : Reading → ℕ
+nameLength Reading.End = 0
+nameLength (Reading.Refused r) = 0
+nameLength (Reading.Literal l) = l .len
+
+-- the sheet entry: the value sheet's length; N and the words filled, 0 after a refusal
+abbrev pub sheetNumber : SheetAnswer → ℕ
+sheetNumber (SheetAnswer.Accepted counts) = counts .bytes
+sheetNumber (SheetAnswer.Refused r) = packed r
+
+abbrev pub sheetAtoms : SheetAnswer → ℕ
+sheetAtoms (SheetAnswer.Accepted counts) = counts .atoms
+sheetAtoms (SheetAnswer.Refused r) = 0
+
+abbrev pub sheetWords : SheetAnswer → ℕ
+sheetWords (SheetAnswer.Accepted counts) = counts .words
+sheetWords (SheetAnswer.Refused r) = 0
+
+pub data SheetPacked (s : List ℕ) (wordRoom nameRoom : ℕ) (text : List ℕ) : ℕ → List ℕ → List ℕ → List ℕ → ℕ → ℕ → Type 0 where
+  answers : {a : SheetAnswer} {words names after : List ℕ} → SheetAllows s wordRoom nameRoom text a words names after
+      → SheetPacked s wordRoom nameRoom text (sheetNumber a) words names after (sheetAtoms a) (sheetWords a)

@@ -6,13 +6,20 @@ use picks::MarkRecord;
 use picks::PickAnswer;
 use picks::ReportAnswer;
 use picks::SettledAnswer;
+use reader::Reading;
+use reader::Role;
+use reader::SheetLiteral;
 use refusal::Refusal;
+use sheets::SheetAnswer;
 use truth::Truth;
 use words::Checked;
 ghost use mathlib.Core.Path.{_≡_};
 ghost use Rattle.truth.specs.Connectives.{conjunction, disjunction, negated, implied};
 ghost use Rattle.words.specs.Check.{tableCheck};
-ghost use Rattle.probe.specs.Packed.{packed, truthNumber, checkedNumber, freshNumber, pickNumber, settledNumber, reportNumber, countNumber, evaluationNumber, FreshPacked, PickPacked, SettledPacked, ReportPacked, CountPacked, EvaluationPacked};
+ghost use Prim.Native.Nat.{_≤_};
+ghost use lib.ListN.{length};
+ghost use Rattle.reader.specs.Readings.{nextAt};
+ghost use Rattle.probe.specs.Packed.{packed, truthNumber, checkedNumber, freshNumber, pickNumber, settledNumber, reportNumber, countNumber, evaluationNumber, FreshPacked, PickPacked, SettledPacked, ReportPacked, CountPacked, EvaluationPacked, roleNumber, literalNumber, readingNumber, nameStart, nameLength, sheetNumber, sheetAtoms, sheetWords, SheetPacked};
 
 // 2^32 times the number, plus the place.
 fn packed_refusal(r: Refusal) -> u64
@@ -187,4 +194,117 @@ pub extern "C" fn probe_evaluate(n: u64, table: &[u16], values: &mut [u8]) -> u6
     ensures { λ r. ⌜ EvaluationPacked n (now (table .entry)) (now (values .entry)) r (now (values .exit)) ⌝ }
 {
     evaluation_number(evaluation::evaluate(n, table, values))
+}
+
+fn role_number(role: Role) -> u64
+    ensures { λ n. ⌜ n ≡ roleNumber role ⌝ }
+    ensures { λ n. ⌜ n ≤ 6 ⌝ }
+{
+    match role {
+        Role::Head => 2,
+        Role::First => 4,
+        Role::Further => 6,
+    }
+}
+
+fn literal_number(l: SheetLiteral) -> u64
+    ensures { λ n. ⌜ n ≡ literalNumber l ⌝ }
+{
+    let role = l.role;
+    let number = role_number(role);
+    if l.negated { number + 1 } else { number }
+}
+
+fn reading_number(reading: Reading) -> u64
+    ensures { λ n. ⌜ n ≡ readingNumber reading ⌝ }
+{
+    match reading {
+        Reading::End => 0,
+        Reading::Refused(r) => packed_refusal(r),
+        Reading::Literal(l) => literal_number(l),
+    }
+}
+
+fn name_start(reading: Reading) -> usize
+    ensures { λ n. ⌜ n ≡ nameStart reading ⌝ }
+{
+    match reading {
+        Reading::End => 0,
+        Reading::Refused(_) => 0,
+        Reading::Literal(l) => l.start,
+    }
+}
+
+fn name_length(reading: Reading) -> usize
+    ensures { λ n. ⌜ n ≡ nameLength reading ⌝ }
+{
+    match reading {
+        Reading::End => 0,
+        Reading::Refused(_) => 0,
+        Reading::Literal(l) => l.len,
+    }
+}
+
+#[no_mangle]
+pub extern "C" fn probe_reading(
+    sheet: &[u8],
+    place: &mut usize,
+    start: &mut usize,
+    len: &mut usize,
+) -> u64
+    ensures { λ r. ⌜ r ≡ readingNumber (nextAt (now (sheet .entry)) (now (place .entry)) .reading) ⌝ }
+    ensures { λ _. ⌜ now (place .exit) ≡ nextAt (now (sheet .entry)) (now (place .entry)) .place ⌝ }
+    ensures { λ _. ⌜ now (start .exit) ≡ nameStart (nextAt (now (sheet .entry)) (now (place .entry)) .reading) ⌝ }
+    ensures { λ _. ⌜ now (len .exit) ≡ nameLength (nextAt (now (sheet .entry)) (now (place .entry)) .reading) ⌝ }
+{
+    let next = reader::next_at(sheet, *place);
+    let reading = next.reading;
+    *place = next.place;
+    *start = name_start(reading);
+    *len = name_length(reading);
+    reading_number(reading)
+}
+
+fn sheet_number(answer: SheetAnswer) -> u64
+    ensures { λ n. ⌜ n ≡ sheetNumber answer ⌝ }
+{
+    match answer {
+        SheetAnswer::Accepted(counts) => counts.bytes as u64,
+        SheetAnswer::Refused(r) => packed_refusal(r),
+    }
+}
+
+fn sheet_atoms(answer: SheetAnswer) -> usize
+    ensures { λ n. ⌜ n ≡ sheetAtoms answer ⌝ }
+{
+    match answer {
+        SheetAnswer::Accepted(counts) => counts.atoms,
+        SheetAnswer::Refused(_) => 0,
+    }
+}
+
+fn sheet_words(answer: SheetAnswer) -> usize
+    ensures { λ n. ⌜ n ≡ sheetWords answer ⌝ }
+{
+    match answer {
+        SheetAnswer::Accepted(counts) => counts.words,
+        SheetAnswer::Refused(_) => 0,
+    }
+}
+
+#[no_mangle]
+pub extern "C" fn probe_sheet(
+    sheet: &[u8],
+    words: &mut [u16],
+    names: &mut [u32],
+    text: &mut [u8],
+    atoms: &mut usize,
+    filled: &mut usize,
+) -> u64
+    ensures { λ r. ⌜ SheetPacked (now (sheet .entry)) (length (now (words .entry))) (length (now (names .entry))) (now (text .entry)) r (now (words .exit)) (now (names .exit)) (now (text .exit)) (now (atoms .exit)) (now (filled .exit)) ⌝ }
+{
+    let answer = sheets::read_sheet(sheet, words, names, text);
+    *atoms = sheet_atoms(answer);
+    *filled = sheet_words(answer);
+    sheet_number(answer)
 }

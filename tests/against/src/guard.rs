@@ -19,6 +19,12 @@ impl Fill for u16 {
     }
 }
 
+impl Fill for u32 {
+    fn fill(i: usize) -> u32 {
+        0xa55a_c33c ^ i as u32
+    }
+}
+
 impl Fill for u64 {
     fn fill(i: usize) -> u64 {
         0xa55a_c33c_9669_f00f ^ i as u64

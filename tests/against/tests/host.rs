@@ -265,7 +265,7 @@ mod sheet {
                 compare(&sheet, &full(20_000), chance.of(&BEFORE), &mut tally);
             }
         }
-        let numbers = ["sheet ok", "sheet 7", "sheet 8", "sheet 10", "sheet 11", "sheet 12", "sheet 13", "sheet 14"];
+        let numbers = ["sheet 7", "sheet 8", "sheet 10", "sheet 11", "sheet 12", "sheet 13", "sheet 14"];
         tally.expect(&numbers, cases(100));
     }
 
@@ -286,7 +286,7 @@ mod sheet {
     fn every_byte_value_at_every_place_of_a_sheet() {
         let mut tally = Tally::default();
         let lent = full(100);
-        let base = b"ab\t-c d.\t_e\nab.0\n-f\t-ab g\tc\n";
+        let base = b"ab\t-c d.\te_\nab.0\n-f\t-ab g\tc\n";
         for at in 0..base.len() {
             for byte in 0..=255 {
                 let mut sheet = base.to_vec();
@@ -334,14 +334,14 @@ mod sheet {
 
     #[test]
     fn sheets_of_65536_and_65537_bytes() {
-        // 64 lines of one head and 64 groups of 15 bytes, one of them padded by a longer name.
+        // Lines of a head and 48 groups of one name of 20 bytes, then facts up to the length.
         let mut tally = Tally::default();
         for length in [65_535, 65_536, 65_537, 65_538] {
             let mut sheet = Vec::new();
             let mut line = 0;
             while length - sheet.len() > 1100 {
                 sheet.extend(format!("h{line}").into_bytes());
-                sheet.extend(b"\tbcdefghijklmno0".repeat(64));
+                sheet.extend(b"\tbcdefghijklmnopqrst0".repeat(48));
                 sheet.push(b'\n');
                 line += 1;
             }
