@@ -21,7 +21,11 @@ use Rattle.paper.proofs.Order.{marking-count, all-marked→settled}
 use Rattle.paper.proofs.Counting.{count-full}
 use Rattle.paper.proofs.Smallest.{smallest-unique}
 use Rattle.marking.specs.Faults.{tableTooLong, roomTooSmall}
-use Rattle.picks.specs.Entries.{written}
+use Rattle.picks.specs.declared.MarkRecord.{MarkRecord}
+use Rattle.picks.specs.declared.ReportAnswer.{ReportAnswer}
+use Rattle.picks.specs.Entries.{written, marksOf, noMarksFor, ReportAllows}
+use Rattle.picks.specs.Traces.{Picks}
+use Rattle.picks.proofs.Demand3.{report-after-picks}
 use Rattle.evaluation.specs.declared.EvaluationAnswer.{EvaluationAnswer}
 use Rattle.evaluation.specs.Evaluation.{evaluationFault, tooManyAtoms, EvaluationAllows, refused, never-settles, evaluated}
 use Rattle.evaluation.proofs.Evaluated.{evaluation-accepted}
@@ -69,3 +73,12 @@ evaluation-within N t room =
     (asking-within (length t) (leb (length t) 8192) table-too-long Accepted (omega arith, omega arith) tt)
     (orElse-within (length t) (roomTooSmall N room) (tableCheck N t)
     (asking-within (length t) (leb N room) value-room-too-small Accepted (omega arith, omega arith) tt) (check-within N t)))
+
+-- whole evaluation equals the report after picks from a fresh record until settled, in any order
+pub evaluation-equals-report : (N : ℕ) (t room x y : List ℕ) {l : List ℕ} {r : MarkRecord} {answer : ReportAnswer} → EvaluationAllows N t room EvaluationAnswer.Evaluated x
+    → Picks t (noMarksFor N) l r → Settled (rulesOf t) (marksOf r) → ReportAllows r t room answer y → (answer ≡ ReportAnswer.Reported) × (x ≡ y)
+evaluation-equals-report N t room x y o picks s w =
+    let e = evaluated-is N t room x EvaluationAnswer.Evaluated o refl in
+    let a = evaluation-accepted N t (length room) (e .0) in
+    let q = report-after-picks N t (a .1) picks s (e .1 .0) (e .1 .1) room (a .2) w in
+    (q .0, e .1 .2 ∙ sym (q .1))

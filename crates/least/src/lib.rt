@@ -215,7 +215,7 @@ pub fn clean(table: &[u16], marks: &[u64]) -> [u64; 16]
     requires { ⌜ Records (now table) 0 ⌝ }
     ensures { λ r. ⌜ IsClean (rulesOf (now (table .entry))) (member (now (marks .entry))) (member r) ⌝ }
 {
-    let mut set = [0u64; 16];
-    close(table, &mut set, marks);
-    set
+    let mut derived = [0u64; 16];
+    close(table, &mut derived, marks);
+    derived
 }

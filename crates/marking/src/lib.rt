@@ -1,7 +1,7 @@
 use refusal::Refusal;
 use words::Checked;
 ghost use mathlib.Core.Path.{_≡_};
-ghost use mathlib.Core.Bool.{_&&_};
+ghost use mathlib.Core.Bool.{not};
 ghost use Prim.Native.Nat.{_≤_, _<_, _-_};
 ghost use lib.Dec.{T};
 ghost use lib.ListN.{length};
@@ -9,7 +9,7 @@ ghost use Rattle.bits.specs.Sets.{member};
 ghost use Rattle.words.specs.Layout.{rulesOf};
 ghost use Rattle.least.specs.Passing.{Records};
 ghost use mathlib.Core.Logic.{_↔_};
-ghost use Rattle.paper.specs.Rules.{positive, negative, HeadsBelow};
+ghost use Rattle.paper.specs.Rules.{HeadsBelow};
 ghost use Rattle.paper.specs.Marking.{CanBeMarked};
 ghost use Rattle.refusal.specs.Numbers.{refusal};
 ghost use Rattle.marking.specs.Faults.{marksFrom, recordFault, tableTooLong, roomTooSmall, atomFault};
@@ -85,6 +85,12 @@ pub fn atom_fault(n: u64, atom: u64) -> Checked
     }
 }
 
+fn not_clean(clean: &[u64], l: usize) -> bool
+    ensures { λ r. ⌜ r ≡ not (member (now (clean .entry)) l) ⌝ }
+{
+    if bits::has(clean, l) { false } else { true }
+}
+
 fn held_not_clean(held: &[u64], clean: &[u64], l: usize) -> bool
     ensures { λ r. ⌜ r ≡ heldNotClean (member (now (held .entry))) (member (now (clean .entry))) l ⌝ }
 {
@@ -97,25 +103,15 @@ fn held_not_clean(held: &[u64], clean: &[u64], l: usize) -> bool
     false
 }
 
-fn both_held(held: &[u64], a: usize) -> bool
-    requires { ⌜ a < 512 ⌝ }
-    ensures { λ r. ⌜ r ≡ (member (now (held .entry)) (positive a) && member (now (held .entry)) (negative a)) ⌝ }
-{
-    if bits::has(held, 2 * a) {
-        return bits::has(held, 2 * a + 1);
-    }
-    false
-}
-
 fn conflict(held: &[u64], clean: &[u64], a: usize) -> bool
     requires { ⌜ a < 512 ⌝ }
     ensures { λ r. ⌜ r ≡ conflicts (member (now (held .entry))) (member (now (clean .entry))) a ⌝ }
 {
-    if both_held(held, a) {
-        return true;
-    }
-    if held_not_clean(held, clean, 2 * a) {
-        return true;
+    if bits::has(held, 2 * a) {
+        if bits::has(held, 2 * a + 1) {
+            return true;
+        }
+        return not_clean(clean, 2 * a);
     }
     held_not_clean(held, clean, 2 * a + 1)
 }

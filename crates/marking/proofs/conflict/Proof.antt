@@ -1,53 +1,71 @@
 use borrow.Author.Needs.{needs}
-use mathlib.Core.Path.{sym}
+use mathlib.Core.Path.{sym, _∙_}
+use mathlib.Core.Bool.{or-false}
 use borrow.Author.Needs.{needs}
 use Rattle.marking.proofs.conflict.Statement.{statement}
 use Rattle.marking.proofs.conflict.Tie as tie
 use Rattle.marking.proofs.conflict.Reads as reads
 use Rattle.marking.proofs.conflict.Lts as lts
-use Rattle.marking.proofs.both_held.Reads as both-held-reads
+use Rattle.bits.proofs.has.Reads as has-reads
 use Rattle.marking.proofs.held_not_clean.Reads as held-not-clean-reads
+use Rattle.marking.proofs.not_clean.Reads as not-clean-reads
 
-both-held-requires : tie.Need-both-held-requires
-both-held-requires c κs = search needs
+mul-has : tie.Need-mul-has
+mul-has c = search needs
+
+has-requires : tie.Need-has-requires
+has-requires c κs = search needs
+
+mul-has-2 : tie.Need-mul-has-2
+mul-has-2 c = search needs
+
+add-has : tie.Need-add-has
+add-has c = search needs
+
+has-requires-2 : tie.Need-has-requires-2
+has-requires-2 c κs = search needs
 
 returns : tie.Need-returns
 returns c =
-    rw (sym (c .before .both-held .ensures), c .if1 .taken)
+    rw (sym (c .before .before .before .has .ensures), c .before .before .if1 .taken, sym (c .before .has2 .ensures), c .if2 .taken)
+
+mul-not-clean : tie.Need-mul-not-clean
+mul-not-clean c = search needs
+
+not-clean-requires : tie.Need-not-clean-requires
+not-clean-requires c κs = search needs
+
+returns-2 : tie.Need-returns-2
+returns-2 c =
+    rw (sym (c .before .before .before .before .has .ensures), c .before .before .before .if1 .taken, sym (c .before .before .has2 .ensures), c .before .if2 .left) (c .not-clean .ensures ∙ sym (or-false _))
 
 mul-held-not-clean : tie.Need-mul-held-not-clean
 mul-held-not-clean c = search needs
 
-held-not-clean-requires : tie.Need-held-not-clean-requires
-held-not-clean-requires c κs = search needs
-
-returns-2 : tie.Need-returns-2
-returns-2 c =
-    rw (sym (c .before .before .before .both-held .ensures), c .before .before .if1 .left, sym (c .before .held-not-clean .ensures), c .if2 .taken)
-
-mul-held-not-clean-2 : tie.Need-mul-held-not-clean-2
-mul-held-not-clean-2 c = search needs
-
 add-held-not-clean : tie.Need-add-held-not-clean
 add-held-not-clean c = search needs
 
-held-not-clean-requires-2 : tie.Need-held-not-clean-requires-2
-held-not-clean-requires-2 c κs = search needs
+held-not-clean-requires : tie.Need-held-not-clean-requires
+held-not-clean-requires c κs = search needs
 
 returns-3 : tie.Need-returns-3
 returns-3 c =
-    rw (sym (c .before .before .before .before .both-held .ensures), c .before .before .before .if1 .left, sym (c .before .before .held-not-clean .ensures), c .before .if2 .left) (c .held-not-clean2 .ensures)
+    rw (sym (c .before .before .has .ensures), c .before .if1 .left) (c .held-not-clean .ensures)
 
 pub conflict-spec : {M : Type 1} → statement M
 conflict-spec =
     tie.close
     (tie.spec
-    both-held-requires
+    mul-has
+    has-requires
+    mul-has-2
+    add-has
+    has-requires-2
     returns
-    mul-held-not-clean
-    held-not-clean-requires
+    mul-not-clean
+    not-clean-requires
     returns-2
-    mul-held-not-clean-2
+    mul-held-not-clean
     add-held-not-clean
-    held-not-clean-requires-2
+    held-not-clean-requires
     returns-3)

@@ -1,0 +1,24 @@
+-- Two outcomes that the host's promise allows are equal. Assumes nothing.
+use mathlib.Core.List.{List}
+use mathlib.Core.Path.{_≡_, refl, sym, ap, _∙_}
+use Prim.Native.Nat.{ℕ}
+use native.Mathlib.Omega.{arith}
+use Rattle.refusal.specs.declared.Refusal.{Refusal}
+use Rattle.words.specs.declared.Checked.the-variants.{Accepted, Refused}
+use Rattle.words.specs.Layout.{rulesOf}
+use Rattle.paper.specs.Rules.{positive}
+use Rattle.paper.specs.Definitions.{Interpretation, value}
+use Rattle.paper.proofs.Smallest.{smallest-unique}
+use Rattle.picks.specs.Entries.{written}
+use Rattle.host.specs.Bytes.{wordsIn}
+use Rattle.host.specs.Evaluation.{HostEvaluation, packed}
+
+refused≢accepted : (f : Refusal) → Refused f ≡ Accepted → ⊥
+refused≢accepted f e = let z : _≡_ {A = ℕ} 0 1 = cc in omega arith
+
+pub host-determined : (N : ℕ) (bytes room : List ℕ) {a b : ℕ} {x y : List ℕ} → HostEvaluation N bytes room a x → HostEvaluation N bytes room b y → (a ≡ b) × (x ≡ y)
+host-determined N bytes room (HostEvaluation.refused {f} e) (HostEvaluation.refused {f = g} e′) = let q : f ≡ g = cc in (ap packed q, refl)
+host-determined N bytes room (HostEvaluation.refused {f} e) (HostEvaluation.evaluated e′ I s) = absurd (refused≢accepted f (sym e ∙ e′))
+host-determined N bytes room (HostEvaluation.evaluated e I s) (HostEvaluation.refused {f} e′) = absurd (refused≢accepted f (sym e′ ∙ e))
+host-determined N bytes room (HostEvaluation.evaluated e I s) (HostEvaluation.evaluated e′ J s′) =
+    (refl, ap (λ (K : Interpretation). written (λ a. value K (positive a)) N room) (smallest-unique (rulesOf (wordsIn bytes)) I J s s′))

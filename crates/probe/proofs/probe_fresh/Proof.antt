@@ -1,0 +1,17 @@
+use Rattle.probe.specs.Packed.{FreshPacked}
+use borrow.Author.Needs.{needs}
+use Rattle.probe.proofs.probe_fresh.Statement.{statement}
+use Rattle.probe.proofs.probe_fresh.Tie as tie
+
+fresh-requires : tie.Need-fresh-requires
+fresh-requires c κs = search needs
+
+fresh-number-requires : tie.Need-fresh-number-requires
+fresh-number-requires c κs = search needs
+
+returns : tie.Need-returns
+returns c =
+    rw (c .fresh-number .ensures) (FreshPacked.answers (c .before .before .before .fresh .ensures))
+
+pub probe-fresh-spec : {M : Type 1} → statement M
+probe-fresh-spec = tie.close (tie.spec fresh-requires fresh-number-requires returns)

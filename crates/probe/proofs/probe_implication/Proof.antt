@@ -1,0 +1,18 @@
+use mathlib.Core.Path.{ap, _∙_}
+use Rattle.probe.specs.Packed.{truthNumber}
+use borrow.Author.Needs.{needs}
+use Rattle.probe.proofs.probe_implication.Statement.{statement}
+use Rattle.probe.proofs.probe_implication.Tie as tie
+
+implication-requires : tie.Need-implication-requires
+implication-requires c κs = search needs
+
+truth-number-requires : tie.Need-truth-number-requires
+truth-number-requires c κs = search needs
+
+returns : tie.Need-returns
+returns c =
+    c .truth-number .ensures ∙ ap truthNumber (c .before .implication .ensures)
+
+pub probe-implication-spec : {M : Type 1} → statement M
+probe-implication-spec = tie.close (tie.spec implication-requires truth-number-requires returns)

@@ -1,0 +1,17 @@
+use Rattle.probe.specs.Packed.{PickPacked}
+use borrow.Author.Needs.{needs}
+use Rattle.probe.proofs.probe_pick.Statement.{statement}
+use Rattle.probe.proofs.probe_pick.Tie as tie
+
+pick-by-value-requires : tie.Need-pick-by-value-requires
+pick-by-value-requires c κs = search needs
+
+pick-number-requires : tie.Need-pick-number-requires
+pick-number-requires c κs = search needs
+
+returns : tie.Need-returns
+returns c =
+    rw (c .pick-number .ensures) (PickPacked.answers (c .before .before .before .pick-by-value .ensures))
+
+pub probe-pick-spec : {M : Type 1} → statement M
+probe-pick-spec = tie.close (tie.spec pick-by-value-requires pick-number-requires returns)

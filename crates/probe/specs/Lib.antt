@@ -1,0 +1,2 @@
+-- How an answer is packed into one number for the tests.
+pub mod Packed

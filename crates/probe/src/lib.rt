@@ -1,0 +1,310 @@
+// The entries for tests, over numbers and lent rows; tests/probe.h says how each answer is packed into one number.
+use evaluation::EvaluationAnswer;
+use picks::CountAnswer;
+use picks::FreshAnswer;
+use picks::MarkRecord;
+use picks::PickAnswer;
+use picks::ReportAnswer;
+use picks::SettledAnswer;
+use reader::Reading;
+use reader::Role;
+use reader::SheetLiteral;
+use refusal::Refusal;
+use sheets::SheetAnswer;
+use truth::Truth;
+use words::Checked;
+ghost use mathlib.Core.Path.{_≡_};
+ghost use Rattle.truth.specs.Connectives.{conjunction, disjunction, negated, implied};
+ghost use Rattle.words.specs.Check.{tableCheck};
+ghost use Prim.Native.Nat.{_≤_};
+ghost use lib.ListN.{length};
+ghost use Rattle.reader.specs.Readings.{nextAt};
+ghost use Rattle.probe.specs.Packed.{packed, truthNumber, checkedNumber, freshNumber, pickNumber, settledNumber, reportNumber, countNumber, evaluationNumber, FreshPacked, PickPacked, SettledPacked, ReportPacked, CountPacked, EvaluationPacked, roleNumber, literalNumber, readingNumber, nameStart, nameLength, sheetNumber, sheetAtoms, sheetWords, SheetPacked};
+
+// 2^32 times the number, plus the place.
+fn packed_refusal(r: Refusal) -> u64
+    ensures { λ n. ⌜ n ≡ packed r ⌝ }
+{
+    std::num::wrapping_add_u64(r.number << 32, r.place)
+}
+
+fn truth_number(answer: Truth) -> u64
+    ensures { λ n. ⌜ n ≡ truthNumber answer ⌝ }
+{
+    match answer {
+        Truth::Code(code) => code,
+        Truth::Refused(r) => packed_refusal(r),
+    }
+}
+
+#[no_mangle]
+pub extern "C" fn probe_and(v: u64, w: u64) -> u64
+    ensures { λ n. ⌜ n ≡ truthNumber (conjunction v w) ⌝ }
+{
+    truth_number(truth::and(v, w))
+}
+
+#[no_mangle]
+pub extern "C" fn probe_or(v: u64, w: u64) -> u64
+    ensures { λ n. ⌜ n ≡ truthNumber (disjunction v w) ⌝ }
+{
+    truth_number(truth::or(v, w))
+}
+
+#[no_mangle]
+pub extern "C" fn probe_not(v: u64) -> u64
+    ensures { λ n. ⌜ n ≡ truthNumber (negated v) ⌝ }
+{
+    truth_number(truth::not(v))
+}
+
+#[no_mangle]
+pub extern "C" fn probe_implication(body: u64, head: u64) -> u64
+    ensures { λ n. ⌜ n ≡ truthNumber (implied body head) ⌝ }
+{
+    truth_number(truth::implication(body, head))
+}
+
+fn checked_number(answer: Checked) -> u64
+    ensures { λ n. ⌜ n ≡ checkedNumber answer ⌝ }
+{
+    match answer {
+        Checked::Accepted => 0,
+        Checked::Refused(r) => packed_refusal(r),
+    }
+}
+
+#[no_mangle]
+pub extern "C" fn probe_check(n: u64, table: &[u16]) -> u64
+    ensures { λ r. ⌜ r ≡ checkedNumber (tableCheck n (now (table .entry))) ⌝ }
+{
+    checked_number(words::check(n, table))
+}
+
+fn fresh_number(answer: FreshAnswer) -> u64
+    ensures { λ n. ⌜ n ≡ freshNumber answer ⌝ }
+{
+    match answer {
+        FreshAnswer::Fresh => 0,
+        FreshAnswer::Refused(r) => packed_refusal(r),
+    }
+}
+
+#[no_mangle]
+pub extern "C" fn probe_fresh(asked: u64, n: &mut u64, marks: &mut [u64; 8]) -> u64
+    ensures { λ r. ⌜ FreshPacked asked r (now (n .exit)) (now (marks .exit)) ⌝ }
+{
+    let made = picks::fresh(asked);
+    let record = made.record;
+    let answer = made.answer;
+    let m = record.marks;
+    *n = record.n;
+    *marks = m;
+    fresh_number(answer)
+}
+
+fn pick_number(answer: PickAnswer) -> u64
+    ensures { λ n. ⌜ n ≡ pickNumber answer ⌝ }
+{
+    match answer {
+        PickAnswer::Marked => 0,
+        PickAnswer::AlreadyMarked => 1,
+        PickAnswer::CannotBeMarkedNow => 2,
+        PickAnswer::Refused(r) => packed_refusal(r),
+    }
+}
+
+#[no_mangle]
+pub extern "C" fn probe_pick(n: &mut u64, marks: &mut [u64; 8], table: &[u16], atom: u64) -> u64
+    ensures { λ r. ⌜ PickPacked (record { n = now (n .entry); marks = now (marks .entry) }) (now (table .entry)) atom r (now (n .exit)) (now (marks .exit)) ⌝ }
+{
+    let m = *marks;
+    let picked = picks::pick_by_value(MarkRecord { n: *n, marks: m }, table, atom);
+    let record = picked.record;
+    let answer = picked.answer;
+    let after = record.marks;
+    *n = record.n;
+    *marks = after;
+    pick_number(answer)
+}
+
+fn settled_number(answer: SettledAnswer) -> u64
+    ensures { λ n. ⌜ n ≡ settledNumber answer ⌝ }
+{
+    match answer {
+        SettledAnswer::Yes => 1,
+        SettledAnswer::No => 0,
+        SettledAnswer::Refused(r) => packed_refusal(r),
+    }
+}
+
+#[no_mangle]
+pub extern "C" fn probe_settled(n: u64, marks: &[u64; 8], table: &[u16]) -> u64
+    ensures { λ r. ⌜ SettledPacked (record { n = n; marks = now (marks .entry) }) (now (table .entry)) r ⌝ }
+{
+    let m = *marks;
+    settled_number(picks::settled(MarkRecord { n, marks: m }, table))
+}
+
+fn report_number(answer: ReportAnswer) -> u64
+    ensures { λ n. ⌜ n ≡ reportNumber answer ⌝ }
+{
+    match answer {
+        ReportAnswer::Reported => 0,
+        ReportAnswer::Refused(r) => packed_refusal(r),
+    }
+}
+
+#[no_mangle]
+pub extern "C" fn probe_report(n: u64, marks: &[u64; 8], table: &[u16], values: &mut [u8]) -> u64
+    ensures { λ r. ⌜ ReportPacked (record { n = n; marks = now (marks .entry) }) (now (table .entry)) (now (values .entry)) r (now (values .exit)) ⌝ }
+{
+    let m = *marks;
+    report_number(picks::report(MarkRecord { n, marks: m }, table, values))
+}
+
+fn count_number(answer: CountAnswer) -> u64
+    ensures { λ n. ⌜ n ≡ countNumber answer ⌝ }
+{
+    match answer {
+        CountAnswer::Marks(marks) => marks,
+        CountAnswer::Refused(r) => packed_refusal(r),
+    }
+}
+
+#[no_mangle]
+pub extern "C" fn probe_mark_count(n: u64, marks: &[u64; 8]) -> u64
+    ensures { λ r. ⌜ CountPacked (record { n = n; marks = now (marks .entry) }) r ⌝ }
+{
+    let m = *marks;
+    count_number(picks::mark_count(MarkRecord { n, marks: m }))
+}
+
+fn evaluation_number(answer: EvaluationAnswer) -> u64
+    ensures { λ n. ⌜ n ≡ evaluationNumber answer ⌝ }
+{
+    match answer {
+        EvaluationAnswer::Evaluated => 0,
+        EvaluationAnswer::Refused(r) => packed_refusal(r),
+    }
+}
+
+#[no_mangle]
+pub extern "C" fn probe_evaluate(n: u64, table: &[u16], values: &mut [u8]) -> u64
+    ensures { λ r. ⌜ EvaluationPacked n (now (table .entry)) (now (values .entry)) r (now (values .exit)) ⌝ }
+{
+    evaluation_number(evaluation::evaluate(n, table, values))
+}
+
+fn role_number(role: Role) -> u64
+    ensures { λ n. ⌜ n ≡ roleNumber role ⌝ }
+    ensures { λ n. ⌜ n ≤ 6 ⌝ }
+{
+    match role {
+        Role::Head => 2,
+        Role::First => 4,
+        Role::Further => 6,
+    }
+}
+
+fn literal_number(l: SheetLiteral) -> u64
+    ensures { λ n. ⌜ n ≡ literalNumber l ⌝ }
+{
+    let role = l.role;
+    let number = role_number(role);
+    if l.negated { number + 1 } else { number }
+}
+
+fn reading_number(reading: Reading) -> u64
+    ensures { λ n. ⌜ n ≡ readingNumber reading ⌝ }
+{
+    match reading {
+        Reading::End => 0,
+        Reading::Refused(r) => packed_refusal(r),
+        Reading::Literal(l) => literal_number(l),
+    }
+}
+
+fn name_start(reading: Reading) -> usize
+    ensures { λ n. ⌜ n ≡ nameStart reading ⌝ }
+{
+    match reading {
+        Reading::End => 0,
+        Reading::Refused(_) => 0,
+        Reading::Literal(l) => l.start,
+    }
+}
+
+fn name_length(reading: Reading) -> usize
+    ensures { λ n. ⌜ n ≡ nameLength reading ⌝ }
+{
+    match reading {
+        Reading::End => 0,
+        Reading::Refused(_) => 0,
+        Reading::Literal(l) => l.len,
+    }
+}
+
+#[no_mangle]
+pub extern "C" fn probe_reading(
+    sheet: &[u8],
+    place: &mut usize,
+    start: &mut usize,
+    len: &mut usize,
+) -> u64
+    ensures { λ r. ⌜ r ≡ readingNumber (nextAt (now (sheet .entry)) (now (place .entry)) .reading) ⌝ }
+    ensures { λ _. ⌜ now (place .exit) ≡ nextAt (now (sheet .entry)) (now (place .entry)) .place ⌝ }
+    ensures { λ _. ⌜ now (start .exit) ≡ nameStart (nextAt (now (sheet .entry)) (now (place .entry)) .reading) ⌝ }
+    ensures { λ _. ⌜ now (len .exit) ≡ nameLength (nextAt (now (sheet .entry)) (now (place .entry)) .reading) ⌝ }
+{
+    let next = reader::next_at(sheet, *place);
+    let reading = next.reading;
+    *place = next.place;
+    *start = name_start(reading);
+    *len = name_length(reading);
+    reading_number(reading)
+}
+
+fn sheet_number(answer: SheetAnswer) -> u64
+    ensures { λ n. ⌜ n ≡ sheetNumber answer ⌝ }
+{
+    match answer {
+        SheetAnswer::Accepted(counts) => counts.bytes as u64,
+        SheetAnswer::Refused(r) => packed_refusal(r),
+    }
+}
+
+fn sheet_atoms(answer: SheetAnswer) -> usize
+    ensures { λ n. ⌜ n ≡ sheetAtoms answer ⌝ }
+{
+    match answer {
+        SheetAnswer::Accepted(counts) => counts.atoms,
+        SheetAnswer::Refused(_) => 0,
+    }
+}
+
+fn sheet_words(answer: SheetAnswer) -> usize
+    ensures { λ n. ⌜ n ≡ sheetWords answer ⌝ }
+{
+    match answer {
+        SheetAnswer::Accepted(counts) => counts.words,
+        SheetAnswer::Refused(_) => 0,
+    }
+}
+
+#[no_mangle]
+pub extern "C" fn probe_sheet(
+    sheet: &[u8],
+    words: &mut [u16],
+    names: &mut [u32],
+    text: &mut [u8],
+    atoms: &mut usize,
+    filled: &mut usize,
+) -> u64
+    ensures { λ r. ⌜ SheetPacked (now (sheet .entry)) (length (now (words .entry))) (length (now (names .entry))) (now (text .entry)) r (now (words .exit)) (now (names .exit)) (now (text .exit)) (now (atoms .exit)) (now (filled .exit)) ⌝ }
+{
+    let answer = sheets::read_sheet(sheet, words, names, text);
+    *atoms = sheet_atoms(answer);
+    *filled = sheet_words(answer);
+    sheet_number(answer)
+}

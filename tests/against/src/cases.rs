@@ -1,0 +1,61 @@
+//! How many cases to run, and what they met.
+
+use std::collections::BTreeMap;
+use std::fmt::Debug;
+
+use second::refusal::Refusal;
+
+/// So many cases, times SIMMERKNOT_CASES (1 if it is not set).
+pub fn cases(count: u64) -> u64 {
+    count * factor()
+}
+
+fn factor() -> u64 {
+    match std::env::var("SIMMERKNOT_CASES") {
+        Err(_) => 1,
+        Ok(text) => text.parse().ok().filter(|&factor| factor > 0).expect("SIMMERKNOT_CASES is a number above 0"),
+    }
+}
+
+/// How often each outcome was met.
+#[derive(Clone, Debug, Default)]
+pub struct Tally {
+    met: BTreeMap<String, u64>,
+}
+
+impl Tally {
+    pub fn note(&mut self, outcome: &str) {
+        match self.met.get_mut(outcome) {
+            Some(times) => *times += 1,
+            None => drop(self.met.insert(outcome.to_string(), 1)),
+        }
+    }
+
+    /// Notes "what ok", or "what N" for refusal N.
+    pub fn answer<T>(&mut self, what: &str, answer: &Result<T, Refusal>) {
+        match answer {
+            Ok(_) => self.note(&format!("{what} ok")),
+            Err(refusal) => self.note(&format!("{what} {}", refusal.number)),
+        }
+    }
+
+    pub fn times(&self, outcome: &str) -> u64 {
+        self.met.get(outcome).copied().unwrap_or(0)
+    }
+
+    pub fn total(&self) -> u64 {
+        self.met.values().sum()
+    }
+
+    /// Each of these outcomes was met so many times, and no others were met. Prints what was met (`-- --nocapture`).
+    pub fn expect(&self, outcomes: &[&str], least: u64) {
+        println!("{} in all: {:?}", self.total(), self.met);
+        for outcome in outcomes {
+            let times = self.times(outcome);
+            assert!(times >= least, "'{outcome}' was met {times} times, not {least}: {self:#?}");
+        }
+        for outcome in self.met.keys() {
+            assert!(outcomes.contains(&outcome.as_str()), "'{outcome}' should not be met: {self:#?}");
+        }
+    }
+}

@@ -1,0 +1,46 @@
+//! The host's two entries, over bytes; the sheet entry is here once libsimmerknot.a has it.
+
+unsafe extern "C" {
+    fn simmerknot_evaluate(n: u64, table: *const u8, table_len: usize, values: *mut u8, values_len: usize) -> u64;
+}
+
+#[cfg(simmerknot_sheet)]
+unsafe extern "C" {
+    fn simmerknot_sheet(
+        sheet: *const u8,
+        sheet_len: usize,
+        words: *mut u8,
+        words_len: usize,
+        names: *mut u8,
+        names_len: usize,
+        text: *mut u8,
+        text_len: usize,
+    ) -> u64;
+}
+
+/// Evaluation, lent these very slices.
+pub fn evaluate(n: u64, table: &[u8], values: &mut [u8]) -> u64 {
+    unsafe { simmerknot_evaluate(n, table.as_ptr(), table.len(), values.as_mut_ptr(), values.len()) }
+}
+
+/// Evaluation with pointers that may be null where the length is 0.
+pub fn evaluate_nulls(n: u64) -> u64 {
+    unsafe { simmerknot_evaluate(n, std::ptr::null(), 0, std::ptr::null_mut(), 0) }
+}
+
+/// The sheet entry, lent these very slices.
+#[cfg(simmerknot_sheet)]
+pub fn sheet(sheet: &[u8], words: &mut [u8], names: &mut [u8], text: &mut [u8]) -> u64 {
+    let (w, n, t) = (words.len(), names.len(), text.len());
+    let (words, names, text) = (words.as_mut_ptr(), names.as_mut_ptr(), text.as_mut_ptr());
+    unsafe { simmerknot_sheet(sheet.as_ptr(), sheet.len(), words, w, names, n, text, t) }
+}
+
+/// The sheet entry with null pointers for the sheet and for every buffer that is empty.
+#[cfg(simmerknot_sheet)]
+pub fn sheet_nulls(words: &mut [u8], names: &mut [u8]) -> u64 {
+    let lend = |row: &mut [u8]| if row.is_empty() { std::ptr::null_mut() } else { row.as_mut_ptr() };
+    let (w, n) = (words.len(), names.len());
+    let (words, names) = (lend(words), lend(names));
+    unsafe { simmerknot_sheet(std::ptr::null(), 0, words, w, names, n, std::ptr::null_mut(), 0) }
+}

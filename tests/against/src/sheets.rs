@@ -1,0 +1,82 @@
+//! The reader and the sheet entry of `tests/probe.h`.
+
+use second::reader::{Reading, Role, SheetLiteral};
+use second::refusal::Refusal;
+use second::sheet::Accepted;
+
+use crate::entries::unpacked;
+use crate::guard::Guarded;
+
+unsafe extern "C" {
+    fn probe_reading(sheet: *const u8, length: usize, place: *mut u64, start: *mut u64, len: *mut u64) -> u64;
+    fn probe_sheet(
+        sheet: *const u8,
+        length: usize,
+        words: *mut u16,
+        words_len: usize,
+        names: *mut u32,
+        names_len: usize,
+        text: *mut u8,
+        text_len: usize,
+        atoms: *mut u64,
+        filled: *mut u64,
+    ) -> u64;
+}
+
+/// The engine's reading at a place, and the place where the next one goes on.
+pub fn reading(sheet: &[u8], place: u64) -> (Reading, u64) {
+    // What stood in the numbers before must not show: they are written by every call.
+    let mut lent = [0xdead_beef_u64, 0xdead_beef, place, 0xdead_beef, 0xdead_beef];
+    let [_, start, at, length, _] = &mut lent;
+    let answer = unsafe { probe_reading(sheet.as_ptr(), sheet.len(), at, start, length) };
+    let [before, start, next, length, behind] = lent;
+    assert_eq!((before, behind), (0xdead_beef, 0xdead_beef), "a guard was altered");
+    let reading = match unpacked(answer) {
+        Err(refusal) => Reading::Refused(refusal),
+        Ok(0) => Reading::End,
+        Ok(code) => {
+            let role = match code & !1 {
+                2 => Role::Head,
+                4 => Role::First,
+                6 => Role::Further,
+                _ => panic!("{code} is no reading"),
+            };
+            let literal = SheetLiteral { negated: code % 2 == 1, name_place: start, name_length: length, role };
+            return (Reading::Literal(literal), next);
+        }
+    };
+    assert_eq!((start, length), (0, 0), "a name where there is none");
+    (reading, next)
+}
+
+/// The engine's sheet entry, with guards around each buffer.
+pub fn read_sheet(sheet: &[u8], words: &mut [u16], names: &mut [u32], text: &mut [u8]) -> Result<Accepted, Refusal> {
+    let lent_sheet = Guarded::new(sheet, 13);
+    let mut lent_words = Guarded::new(words, 3);
+    let mut lent_names = Guarded::new(names, 3);
+    let mut lent_text = Guarded::new(text, 13);
+    let mut counts = Guarded::new(&[!0u64, !0], 2);
+    let (w, n, t) = (lent_words.row_mut(), lent_names.row_mut(), lent_text.row_mut());
+    let [atoms, filled] = counts.row_mut() else { unreachable!() };
+    let answer = unsafe {
+        let (words, names, text) = (w.as_mut_ptr(), n.as_mut_ptr(), t.as_mut_ptr());
+        probe_sheet(lent_sheet.row().as_ptr(), sheet.len(), words, w.len(), names, n.len(), text, t.len(), atoms, filled)
+    };
+    lent_sheet.check();
+    lent_words.check();
+    lent_names.check();
+    lent_text.check();
+    counts.check();
+    assert_eq!(lent_sheet.row(), sheet, "the sheet was altered");
+    words.copy_from_slice(lent_words.row());
+    names.copy_from_slice(lent_names.row());
+    text.copy_from_slice(lent_text.row());
+    let [n, words_filled] = [counts.row()[0], counts.row()[1]];
+    match unpacked(answer) {
+        Ok(value_sheet_length) => Ok(Accepted { n, words_filled, value_sheet_length }),
+        Err(refusal) => {
+            assert_eq!((n, words_filled), (0, 0), "counts after a refusal");
+            Err(refusal)
+        }
+    }
+}

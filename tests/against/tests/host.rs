@@ -1,0 +1,399 @@
+//! The host's two entries through the C boundary: answers, every byte of every buffer, and guards around each.
+
+/// The places a buffer is lent from: at an even address and at an odd one.
+const BEFORE: [usize; 2] = [16, 13];
+
+mod evaluate {
+    use super::BEFORE;
+    use against::cases::{Tally, cases};
+    use against::entries::unpacked;
+    use against::guard::Guarded;
+    use against::host;
+    use against::shrink::{smaller, without_parts};
+    use second::host::simmerknot_evaluate as second_evaluate;
+    use second::random::{self, Chance, table_bytes};
+    use second::tables::{EXAMPLES, MEASURED};
+
+    const OUTCOMES: [&str; 8] = [
+        "evaluate ok", "evaluate 1", "evaluate 2", "evaluate 3", "evaluate 4", "evaluate 5", "evaluate 6", "evaluate 7",
+    ];
+
+    /// The engine's packed answer and the value room after it.
+    fn engine(n: u64, table: &[u8], room: &[u8], before: usize) -> (u64, Vec<u8>) {
+        let table = Guarded::new(table, before);
+        let lent = table.clone();
+        let mut values = Guarded::new(room, before);
+        let answer = host::evaluate(n, table.row(), values.row_mut());
+        values.check();
+        assert!(table == lent, "the table was altered");
+        (answer, values.row().to_vec())
+    }
+
+    fn second(n: u64, table: &[u8], room: &[u8]) -> (u64, Vec<u8>) {
+        let mut values = room.to_vec();
+        (second_evaluate(n, table, &mut values), values)
+    }
+
+    /// Both sides answer the same and leave the same bytes; if not, the smallest table found is shown.
+    fn compare(n: u64, table: &[u8], room: &[u8], before: usize, tally: &mut Tally) {
+        let expected = second(n, table, room);
+        tally.answer("evaluate", &unpacked(expected.0));
+        if engine(n, table, room, before) != expected {
+            let differ = |n: u64, table: &[u8]| engine(n, table, room, before) != second(n, table, room);
+            let table = without_parts(table, |table| differ(n, table));
+            let n = smaller(n, |n| differ(n, &table));
+            let ((ours, left), (theirs, right)) = (engine(n, &table, room, before), second(n, &table, room));
+            let (ours, theirs) = (unpacked(ours), unpacked(theirs));
+            panic!("N {n}, table {table:?}, room {room:?}:\nengine {ours:?} {left:?}\nsecond {theirs:?} {right:?}");
+        }
+    }
+
+    #[test]
+    fn random_and_damaged_tables() {
+        let mut chance = Chance::new(0x4057);
+        let mut tally = Tally::default();
+        for _ in 0..cases(120_000) {
+            let (n, words) = random::any_table(&mut chance);
+            let mut table = table_bytes(&words);
+            if chance.one_in(8) {
+                table.push(chance.number() as u8);
+            }
+            let room = random::value_room(&mut chance, n);
+            compare(n, &table, &room, chance.of(&BEFORE), &mut tally);
+        }
+        tally.expect(&OUTCOMES, cases(1_000));
+    }
+
+    #[test]
+    fn small_tables() {
+        let mut chance = Chance::new(0x4058);
+        let mut tally = Tally::default();
+        for _ in 0..cases(2_000_000) {
+            let (n, words) = random::small_table(&mut chance, 6);
+            let mut table = table_bytes(&words);
+            match chance.below(12) {
+                // A byte anywhere set to anything, the table cut anywhere, or a lone byte after it.
+                0 | 1 if !table.is_empty() => {
+                    let at = chance.index(table.len());
+                    table[at] = chance.number() as u8;
+                }
+                2 => table.truncate(chance.index(table.len() + 1)),
+                3 => table.push(chance.number() as u8),
+                _ => {}
+            }
+            let room = random::value_room(&mut chance, n);
+            compare(n, &table, &room, chance.of(&BEFORE), &mut tally);
+        }
+        let small = ["evaluate ok", "evaluate 3", "evaluate 4", "evaluate 5", "evaluate 6", "evaluate 7"];
+        tally.expect(&small, cases(500));
+    }
+
+    #[test]
+    fn large_tables() {
+        let mut chance = Chance::new(0x4059);
+        let mut tally = Tally::default();
+        for _ in 0..cases(6_000) {
+            let (n, words) = random::large_table(&mut chance);
+            let room = random::value_room(&mut chance, n);
+            compare(n, &table_bytes(&words), &room, chance.of(&BEFORE), &mut tally);
+        }
+        tally.expect(&["evaluate ok", "evaluate 3"], cases(500));
+    }
+
+    #[test]
+    fn the_measured_tables_at_full_size() {
+        let mut tally = Tally::default();
+        for measured in MEASURED {
+            let (n, words) = (measured.table)();
+            compare(n, &table_bytes(&words), &vec![9; n as usize + 5], 13, &mut tally);
+        }
+        tally.expect(&["evaluate ok"], MEASURED.len() as u64);
+    }
+
+    #[test]
+    fn p1_to_p12() {
+        for example in EXAMPLES {
+            let table = example.table();
+            let (answer, mut values) = engine(table.n(), &table_bytes(&table.words()), &vec![9; table.n() as usize + 1], 13);
+            assert_eq!(answer, 0, "{}", example.name);
+            assert_eq!(values.pop(), Some(9), "{}", example.name);
+            assert_eq!(values, example.values_in_order(), "{}", example.name);
+        }
+    }
+
+    #[test]
+    fn lengths_0_with_null_pointers() {
+        for n in [0, 1, 512, 513, u64::MAX] {
+            assert_eq!(host::evaluate_nulls(n), second_evaluate(n, &[], &mut []), "N {n}");
+        }
+        assert_eq!(host::evaluate_nulls(0), 0);
+        assert_eq!(host::evaluate_nulls(1), 3 << 32);
+        assert_eq!(host::evaluate_nulls(513), 1 << 32);
+    }
+
+    #[test]
+    fn a_lone_byte_is_met_after_the_whole_words() {
+        let mut tally = Tally::default();
+        let full = table_bytes(&second::tables::max_t().1);
+        assert_eq!(full.len(), 16_384);
+        for more in 0..4 {
+            let mut table = full.clone();
+            table.extend(vec![0; more]);
+            compare(512, &table, &[9; 512], 16, &mut tally);
+            compare(512, &table, &[9; 511], 16, &mut tally);
+            compare(513, &table, &[9; 512], 16, &mut tally);
+        }
+        for cut in 0..full.len() {
+            compare(512, &full[..cut], &[9; 512], 13, &mut tally);
+        }
+        // N 1, words 0, 65 and a byte: 6 at 1.
+        let (answer, _) = engine(1, &[0, 0, 65, 0, 7], &[9], 13);
+        assert_eq!(answer, (6 << 32) + 1);
+        tally.expect(&["evaluate ok", "evaluate 1", "evaluate 2", "evaluate 3", "evaluate 4"], 1);
+    }
+
+    #[test]
+    fn awkward_numbers_of_atoms() {
+        let mut tally = Tally::default();
+        let ns = [0, 1, 255, 256, 257, 511, 512, 513, 1 << 16, 1 << 31, 1 << 32, (1 << 32) + 1, (1 << 32) + 512, 1 << 63, u64::MAX];
+        for n in ns {
+            for room in [0, 1, 255, 256, 511, 512, 513, 600] {
+                for words in [&[][..], &[0, 0], &[1, 0, 0, 0], &[511, 0], &[1023, 0], &[1024, 0], &[0, 65]] {
+                    compare(n, &table_bytes(words), &vec![9; room], 13, &mut tally);
+                }
+            }
+        }
+        tally.expect(&["evaluate ok", "evaluate 1", "evaluate 3", "evaluate 5", "evaluate 6"], 10);
+    }
+}
+
+#[cfg(simmerknot_sheet)]
+mod sheet {
+    use super::BEFORE;
+    use against::cases::{Tally, cases};
+    use against::entries::unpacked;
+    use against::guard::Guarded;
+    use against::host;
+    use against::shrink::without_parts;
+    use second::host::simmerknot_sheet as second_sheet;
+    use second::random::{self, Chance, SHEET_DAMAGES};
+    use second::tables::EXAMPLES;
+
+    /// The three buffers as they are lent, and as they are left.
+    #[derive(Clone, PartialEq, Eq)]
+    struct Buffers {
+        words: Vec<u8>,
+        names: Vec<u8>,
+        text: Vec<u8>,
+    }
+
+    fn engine(sheet: &[u8], lent: &Buffers, before: usize) -> (u64, Buffers) {
+        let sheet = Guarded::new(sheet, before);
+        let unaltered = sheet.clone();
+        let mut words = Guarded::new(&lent.words, before);
+        let mut names = Guarded::new(&lent.names, before);
+        let mut text = Guarded::new(&lent.text, before);
+        let answer = host::sheet(sheet.row(), words.row_mut(), names.row_mut(), text.row_mut());
+        words.check();
+        names.check();
+        text.check();
+        assert!(sheet == unaltered, "the sheet was altered");
+        (answer, Buffers { words: words.row().to_vec(), names: names.row().to_vec(), text: text.row().to_vec() })
+    }
+
+    fn second(sheet: &[u8], lent: &Buffers) -> (u64, Buffers) {
+        let mut left = lent.clone();
+        (second_sheet(sheet, &mut left.words, &mut left.names, &mut left.text), left)
+    }
+
+    /// Both sides answer the same and leave the same bytes; if not, the smallest sheet found is shown.
+    fn compare(sheet: &[u8], lent: &Buffers, before: usize, tally: &mut Tally) {
+        let expected = second(sheet, lent);
+        tally.answer("sheet", &unpacked(expected.0));
+        if engine(sheet, lent, before) != expected {
+            let sheet = without_parts(sheet, |sheet| engine(sheet, lent, before) != second(sheet, lent));
+            let ((ours, left), (theirs, right)) = (engine(&sheet, lent, before), second(&sheet, lent));
+            let first = |a: &[u8], b: &[u8]| (0..a.len()).find(|&at| a[at] != b[at]);
+            panic!(
+                "sheet \"{}\":\nengine {:?}, second {:?}\nfirst byte that differs: words {:?}, names {:?}, text {:?}",
+                sheet.escape_ascii(),
+                unpacked(ours),
+                unpacked(theirs),
+                first(&left.words, &right.words),
+                first(&left.names, &right.names),
+                first(&left.text, &right.text),
+            );
+        }
+    }
+
+    /// Buffers of awkward lengths, large enough most of the time; the text room fits or just does not.
+    fn buffers(chance: &mut Chance, sheet: &[u8]) -> Buffers {
+        let mut lent = Buffers { words: random::word_bytes(chance), names: random::name_bytes(chance), text: vec![0; 20_000] };
+        let (answer, _) = second(sheet, &lent);
+        let needed = unpacked(answer).unwrap_or(10) as usize;
+        lent.text = random::text_room(chance, needed);
+        lent
+    }
+
+    fn full(text: usize) -> Buffers {
+        Buffers { words: vec![7; 16_384], names: vec![7; 2048], text: vec![7; text] }
+    }
+
+    const OUTCOMES: [&str; 10] = [
+        "sheet ok", "sheet 7", "sheet 8", "sheet 9", "sheet 10", "sheet 11", "sheet 12", "sheet 13", "sheet 14", "sheet 15",
+    ];
+
+    #[test]
+    fn sheets_grown_from_the_grammar_and_damaged() {
+        let mut chance = Chance::new(0x5ee7);
+        let mut tally = Tally::default();
+        for _ in 0..cases(60_000) {
+            let sheet = random::any_sheet(&mut chance);
+            let lent = buffers(&mut chance, &sheet);
+            compare(&sheet, &lent, chance.of(&BEFORE), &mut tally);
+        }
+        tally.expect(&OUTCOMES, cases(500));
+    }
+
+    #[test]
+    fn sheets_damaged_in_each_way() {
+        let mut chance = Chance::new(0x5ee8);
+        let mut tally = Tally::default();
+        for _ in 0..cases(1_500) {
+            for damage in SHEET_DAMAGES {
+                let sheet = random::damaged_sheet(&mut chance, damage);
+                compare(&sheet, &full(20_000), chance.of(&BEFORE), &mut tally);
+            }
+        }
+        let numbers = ["sheet 7", "sheet 8", "sheet 10", "sheet 11", "sheet 12", "sheet 13", "sheet 14"];
+        tally.expect(&numbers, cases(100));
+    }
+
+    #[test]
+    fn short_sheets_of_few_bytes() {
+        let mut chance = Chance::new(0x5ee9);
+        let mut tally = Tally::default();
+        let lent = full(60);
+        for _ in 0..cases(300_000) {
+            let length = chance.index(14);
+            let sheet: Vec<u8> = (0..length).map(|_| chance.of(b"ab\t \n\n-\na0")).collect();
+            compare(&sheet, &lent, 13, &mut tally);
+        }
+        tally.expect(&["sheet ok", "sheet 7", "sheet 10"], cases(1_000));
+    }
+
+    #[test]
+    fn every_byte_value_at_every_place_of_a_sheet() {
+        let mut tally = Tally::default();
+        let lent = full(100);
+        let base = b"ab\t-c d.\te_\nab.0\n-f\t-ab g\tc\n";
+        for at in 0..base.len() {
+            for byte in 0..=255 {
+                let mut sheet = base.to_vec();
+                sheet[at] = byte;
+                compare(&sheet, &lent, 13, &mut tally);
+                sheet.insert(at, base[at]);
+                compare(&sheet, &lent, 13, &mut tally);
+            }
+            compare(&base[..at], &lent, 13, &mut tally);
+        }
+        tally.expect(&["sheet ok", "sheet 7", "sheet 10"], 1);
+    }
+
+    #[test]
+    fn limits_of_names_groups_literals_and_words() {
+        let mut tally = Tally::default();
+        let mut at = |sheet: &[u8], outcome: &str| {
+            let before = tally.times(outcome);
+            compare(sheet, &full(20_000), 13, &mut tally);
+            assert_eq!(tally.times(outcome), before + 1, "{outcome}");
+        };
+        for (length, outcome) in [(1, "sheet ok"), (23, "sheet ok"), (24, "sheet ok"), (25, "sheet 11"), (26, "sheet 11")] {
+            for sign in ["", "-"] {
+                at(format!("{sign}{}\n", "x".repeat(length)).as_bytes(), outcome);
+                at(format!("a\t{sign}{}\n", "x".repeat(length)).as_bytes(), outcome);
+                at(format!("a\tb {sign}{}\n", "x".repeat(length)).as_bytes(), outcome);
+            }
+        }
+        at(format!("{}#\n", "x".repeat(24)).as_bytes(), "sheet 10");
+        for (count, outcome) in [(63, "sheet ok"), (64, "sheet ok"), (65, "sheet 13"), (66, "sheet 13")] {
+            at(format!("a{}\n", "\tb".repeat(count)).as_bytes(), outcome);
+            at(format!("a\tb{}\n", " b".repeat(count - 1)).as_bytes(), outcome);
+        }
+        for (count, outcome) in [(511, "sheet ok"), (512, "sheet ok"), (513, "sheet 12"), (514, "sheet 12")] {
+            at((0..count).map(|i| format!("n{i}\n")).collect::<String>().as_bytes(), outcome);
+            at((0..count).map(|i| format!("-n{i}\n")).collect::<String>().as_bytes(), outcome);
+        }
+        for (words, outcome) in [(8190, "sheet ok"), (8191, "sheet ok"), (8192, "sheet ok"), (8193, "sheet 14"), (8194, "sheet 14")] {
+            for seed in 0..20 {
+                at(&random::full_draft(&mut Chance::new(seed), words).sheet(), outcome);
+            }
+        }
+        tally.expect(&["sheet ok", "sheet 10", "sheet 11", "sheet 12", "sheet 13", "sheet 14"], 1);
+    }
+
+    #[test]
+    fn sheets_of_65536_and_65537_bytes() {
+        // Lines of a head and 48 groups of one name of 20 bytes, then facts up to the length.
+        let mut tally = Tally::default();
+        for length in [65_535, 65_536, 65_537, 65_538] {
+            let mut sheet = Vec::new();
+            let mut line = 0;
+            while length - sheet.len() > 1100 {
+                sheet.extend(format!("h{line}").into_bytes());
+                sheet.extend(b"\tbcdefghijklmnopqrst0".repeat(48));
+                sheet.push(b'\n');
+                line += 1;
+            }
+            let mut rest = length - sheet.len();
+            while rest > 0 {
+                // A fact of 2 to 25 bytes with its own name.
+                let fact = if rest > 50 { 25 } else if rest > 25 { 20 } else { rest };
+                let name = format!("z{line}.{}", "y".repeat(30));
+                sheet.extend(&name.as_bytes()[..fact - 1]);
+                sheet.push(b'\n');
+                line += 1;
+                rest -= fact;
+            }
+            assert_eq!(sheet.len(), length);
+            compare(&sheet, &full(20_000), 13, &mut tally);
+        }
+        assert_eq!(tally.times("sheet 8"), 2);
+        tally.expect(&["sheet ok", "sheet 8"], 2);
+    }
+
+    #[test]
+    fn buffers_of_awkward_lengths() {
+        let mut tally = Tally::default();
+        for words in [0, 1, 2, 3, 16_381, 16_382, 16_383, 16_384, 16_385, 16_386, 16_391, 40_000] {
+            for names in [0, 1, 3, 4, 2043, 2044, 2047, 2048, 2049, 2051, 2052, 2055, 5000] {
+                for sheet in [&b""[..], b"a\n", b"a", b"b\ta\n-a\n", b"a\na\n"] {
+                    for text in [0, 3, 4, 5, 7, 8, 9] {
+                        let lent = Buffers { words: vec![7; words], names: vec![7; names], text: vec![7; text] };
+                        compare(sheet, &lent, 13, &mut tally);
+                    }
+                }
+            }
+        }
+        tally.expect(&["sheet ok", "sheet 7", "sheet 9", "sheet 10", "sheet 15"], 10);
+    }
+
+    #[test]
+    fn lengths_0_with_null_pointers() {
+        for (words, names) in [(0, 0), (16_384, 0), (0, 2048), (16_384, 2048)] {
+            let (mut words, mut names) = (vec![7; words], vec![7; names]);
+            let (mut w, mut n) = (words.clone(), names.clone());
+            assert_eq!(host::sheet_nulls(&mut words, &mut names), second_sheet(b"", &mut w, &mut n, &mut []));
+            assert_eq!((words, names), (w, n));
+        }
+    }
+
+    #[test]
+    fn p1_to_p12_as_sheets() {
+        let mut tally = Tally::default();
+        for example in EXAMPLES {
+            compare(&example.table().sheet(), &full(400), 13, &mut tally);
+        }
+        tally.expect(&["sheet ok"], 12);
+    }
+}

@@ -1,0 +1,191 @@
+//! The table check, on random and damaged tables and at every limit.
+
+use against::cases::{Tally, cases};
+use against::entries::{Engine, Entries, Second};
+use against::guard::Guarded;
+use against::shrink::{smaller, smaller_table};
+use second::random::{self, Chance, TABLE_DAMAGES};
+use second::tables::MEASURED;
+
+const REFUSALS: [&str; 7] = ["check ok", "check 1", "check 2", "check 4", "check 5", "check 6", "check 7"];
+
+/// Both sides answer the same; if not, the smallest table found is shown.
+fn compare(n: u64, words: &[u16], tally: &mut Tally) {
+    let second = Second.check(n, words);
+    tally.answer("check", &second);
+    if Engine.check(n, words) != second {
+        let differ = |n: u64, words: &[u16]| Engine.check(n, words) != Second.check(n, words);
+        let words = smaller_table(words, |words| differ(n, words));
+        let n = smaller(n, |n| differ(n, &words));
+        let (engine, second) = (Engine.check(n, &words), Second.check(n, &words));
+        panic!("N {n}, words {words:?}: engine {engine:?}, second implementation {second:?}");
+    }
+}
+
+/// Values that a word is set to: edges of every limit.
+fn edges(n: u64) -> [u16; 12] {
+    let codes = 2 * n as u16;
+    [0, 1, 2, 63, 64, 65, codes.wrapping_sub(1), codes, codes.wrapping_add(1), 256, 0x8000, u16::MAX]
+}
+
+#[test]
+fn random_and_damaged_tables() {
+    let mut chance = Chance::new(0x7ab1e);
+    let mut tally = Tally::default();
+    for _ in 0..cases(200_000) {
+        let (n, words) = random::any_table(&mut chance);
+        let lent = Guarded::new(&words, 3);
+        compare(n, lent.row(), &mut tally);
+        lent.check();
+    }
+    tally.expect(&REFUSALS, cases(2_000));
+}
+
+#[test]
+fn small_tables_damaged_in_each_way() {
+    let mut chance = Chance::new(0x5a11);
+    let mut tally = Tally::default();
+    for _ in 0..cases(150_000) {
+        let (n, words) = random::small_table(&mut chance, 6);
+        compare(n, &words, &mut tally);
+        for damage in TABLE_DAMAGES {
+            // Tables above 8,192 words take long; once in fifty is enough.
+            if damage == TABLE_DAMAGES[1] && !chance.one_in(50) {
+                continue;
+            }
+            let (mut n, mut words) = (n, words.clone());
+            random::damage_table(&mut chance, &mut n, &mut words, damage);
+            compare(n, &words, &mut tally);
+        }
+    }
+    tally.expect(&REFUSALS, cases(2_000));
+}
+
+/// Every word of a table set to every edge, and the table cut at every word.
+fn every_word(n: u64, words: &[u16], tally: &mut Tally) {
+    let mut changed = words.to_vec();
+    for at in 0..words.len() {
+        compare(n, &words[..at], tally);
+        for edge in edges(n) {
+            changed[at] = edge;
+            compare(n, &changed, tally);
+        }
+        changed[at] = words[at];
+    }
+    compare(n, words, tally);
+}
+
+#[test]
+fn every_word_of_small_tables_at_every_edge_and_cut_there() {
+    let mut chance = Chance::new(0xed6e5);
+    let mut tally = Tally::default();
+    for _ in 0..cases(3_000) {
+        let (n, words) = random::small_table(&mut chance, 5);
+        every_word(n, &words, &mut tally);
+        if n > 1 {
+            every_word(n - 1, &words, &mut tally);
+        }
+    }
+    tally.expect(&["check ok", "check 4", "check 5", "check 6", "check 7"], cases(10_000));
+}
+
+#[test]
+fn full_tables_cut_at_every_word() {
+    let mut tally = Tally::default();
+    for measured in MEASURED {
+        let (n, words) = (measured.table)();
+        for at in 0..=words.len() {
+            compare(n, &words[..at], &mut tally);
+        }
+    }
+    tally.expect(&["check ok", "check 4"], 5_000);
+}
+
+#[test]
+fn awkward_numbers_of_atoms() {
+    let mut tally = Tally::default();
+    let ns = [0, 1, 2, 511, 512, 513, 514, 1 << 16, 1 << 31, 1 << 32, (1 << 32) + 1, (1 << 32) + 512, 1 << 63, u64::MAX];
+    for n in ns {
+        compare(n, &[], &mut tally);
+        for literal in [0, 1, 2, 3, 1021, 1022, 1023, 1024, 1025, 1026, u16::MAX] {
+            compare(n, &[literal], &mut tally);
+            compare(n, &[literal, 0], &mut tally);
+            compare(n, &[0, 1, 1, literal], &mut tally);
+            compare(n, &[literal, 0, literal], &mut tally);
+        }
+        let long = vec![0; 8193];
+        compare(n, &long, &mut tally);
+    }
+    tally.expect(&["check ok", "check 1", "check 2", "check 4", "check 5", "check 7"], 5);
+}
+
+/// Facts, and a record that fills the table to exactly so many words.
+fn of_length(length: usize) -> Vec<u16> {
+    let mut words = Vec::new();
+    let mut head = 0;
+    while words.len() < length {
+        let room = length - words.len();
+        // A record has 2 words, or 3 + k with one group, or 4 + k with a group of one before it.
+        let k = match room {
+            2 | 4 => 0,
+            _ if room <= 67 => room - 3,
+            _ => 60.min(room - 7),
+        };
+        words.push(head);
+        if k == 0 {
+            words.push(0);
+        } else {
+            words.push(1);
+            words.push(k as u16);
+            words.extend((0..k as u16).map(|i| i % 1024));
+        }
+        head += 1;
+    }
+    words
+}
+
+#[test]
+fn at_8191_8192_and_8193_words() {
+    let mut tally = Tally::default();
+    for length in [8189, 8190, 8191, 8192, 8193, 8194, 16_384, 65_536, 65_538] {
+        let words = of_length(length);
+        assert_eq!(words.len(), length);
+        compare(512, &words, &mut tally);
+        assert_eq!(Engine.check(512, &words).is_ok(), length <= 8192, "{length} words");
+        // The last word faulty, and one in the middle.
+        for at in [length - 1, length - 2, length / 2] {
+            for edge in edges(512) {
+                let mut words = words.clone();
+                words[at] = edge;
+                compare(512, &words, &mut tally);
+            }
+        }
+        compare(512, &words[..length - 1], &mut tally);
+    }
+    tally.expect(&["check ok", "check 2", "check 4", "check 5", "check 6", "check 7"], 4);
+}
+
+#[test]
+fn m_and_k_at_0_63_64_and_65() {
+    let mut tally = Tally::default();
+    let near = [0, 1, 2, 62, 63, 64, 65, 66, 128, 320];
+    for m in near {
+        for k in near {
+            let mut words = vec![3, m];
+            for _ in 0..m {
+                words.push(k);
+                words.extend((0..k).map(|i| i % 4));
+            }
+            compare(2, &words, &mut tally);
+            let accepted = m <= 64 && (m == 0 || (1..=64).contains(&k));
+            assert_eq!(Engine.check(2, &words).is_ok(), accepted, "m {m}, k {k}");
+            // Every cut of the first two groups and of the last one.
+            for at in (0..words.len()).filter(|&at| at < 140 || at + 70 > words.len()) {
+                compare(2, &words[..at], &mut tally);
+            }
+            words.extend([3, 0]);
+            compare(2, &words, &mut tally);
+        }
+    }
+    tally.expect(&["check ok", "check 2", "check 4", "check 6", "check 7"], 30);
+}

@@ -1,0 +1,147 @@
+//! Engines that are wrong on purpose part from the second implementation in random traces, and the trace shrinks.
+
+use against::cases::Tally;
+use against::entries::{ALREADY_MARKED, Answer, Entries, MARKED, Second};
+use against::trace::{Plan, Trace, parting, random_trace, shortest};
+use second::marking::MarkRecord;
+use second::random::{self, Chance};
+use second::refusal::Refusal;
+
+/// The wrong answers of issue 5, each beside the most steps of its shortest trace.
+#[derive(Clone, Copy, Debug, PartialEq, Eq)]
+enum Wrong {
+    PickNeverMarks,
+    FirstPickMarksEverything,
+    MadeUpCount,
+    NeighbourMarkedToo,
+    ReportBeforeSettled,
+    RefusedPickAltersAWord,
+    ByteWrittenPastN,
+    AtomBeforeWords,
+    MarksPastNForgotten,
+    RefusedFreshKeepsN,
+}
+
+const WRONG: [(Wrong, usize); 10] = [
+    (Wrong::PickNeverMarks, 2),
+    (Wrong::FirstPickMarksEverything, 2),
+    (Wrong::MadeUpCount, 4),
+    (Wrong::NeighbourMarkedToo, 2),
+    (Wrong::ReportBeforeSettled, 2),
+    (Wrong::RefusedPickAltersAWord, 1),
+    (Wrong::ByteWrittenPastN, 1),
+    (Wrong::AtomBeforeWords, 1),
+    (Wrong::MarksPastNForgotten, 2),
+    (Wrong::RefusedFreshKeepsN, 1),
+];
+
+fn mark(record: &mut MarkRecord, atom: u64) {
+    if atom < record.n.min(512) {
+        record.marks[atom as usize / 64] |= 1 << (atom % 64);
+    }
+}
+
+impl Entries for Wrong {
+    fn and(&self, v: u64, w: u64) -> Answer {
+        Second.and(v, w)
+    }
+
+    fn or(&self, v: u64, w: u64) -> Answer {
+        Second.or(v, w)
+    }
+
+    fn not(&self, v: u64) -> Answer {
+        Second.not(v)
+    }
+
+    fn implication(&self, body: u64, head: u64) -> Answer {
+        Second.implication(body, head)
+    }
+
+    fn check(&self, n: u64, words: &[u16]) -> Answer {
+        Second.check(n, words)
+    }
+
+    fn fresh(&self, n: u64) -> (MarkRecord, Answer) {
+        let (record, answer) = Second.fresh(n);
+        match self {
+            Wrong::RefusedFreshKeepsN => (MarkRecord { n, ..record }, answer),
+            _ => (record, answer),
+        }
+    }
+
+    fn pick(&self, record: &mut MarkRecord, words: &[u16], atom: u64) -> Answer {
+        let before = *record;
+        let answer = Second.pick(record, words, atom);
+        match self {
+            Wrong::PickNeverMarks if answer == Ok(MARKED) => *record = before,
+            Wrong::FirstPickMarksEverything if answer == Ok(MARKED) => {
+                (0..record.n).for_each(|atom| mark(record, atom));
+            }
+            Wrong::NeighbourMarkedToo if answer == Ok(MARKED) => mark(record, atom + 1),
+            Wrong::RefusedPickAltersAWord if answer.is_err() => record.marks[7] ^= 1,
+            Wrong::AtomBeforeWords if atom >= record.n && answer.is_err_and(|refusal| (4..8).contains(&refusal.number)) => {
+                return Err(Refusal { number: 16, place: 0 });
+            }
+            Wrong::MarksPastNForgotten if answer == Err(Refusal { number: 17, place: 0 }) => return Ok(ALREADY_MARKED),
+            _ => {}
+        }
+        answer
+    }
+
+    fn settled(&self, record: &MarkRecord, words: &[u16]) -> Answer {
+        Second.settled(record, words)
+    }
+
+    fn report(&self, record: &MarkRecord, words: &[u16], values: &mut [u8]) -> Answer {
+        let answer = Second.report(record, words, values);
+        match self {
+            Wrong::ReportBeforeSettled if answer == Err(Refusal { number: 18, place: 0 }) => Ok(0),
+            Wrong::ByteWrittenPastN if answer.is_ok() => {
+                if let Some(past) = values.get_mut(record.n as usize) {
+                    *past = !*past;
+                }
+                answer
+            }
+            _ => answer,
+        }
+    }
+
+    fn mark_count(&self, record: &MarkRecord) -> Answer {
+        let answer = Second.mark_count(record);
+        match self {
+            Wrong::MadeUpCount => answer.map(|marks| marks.min(1)),
+            _ => answer,
+        }
+    }
+
+    fn evaluate(&self, n: u64, words: &[u16], values: &mut [u8]) -> Answer {
+        Second.evaluate(n, words, values)
+    }
+}
+
+fn trace(seed: u64) -> Trace {
+    let plan = Plan { table: |chance| random::small_table(chance, 6), tables: 3, damaged: 15, forged: 5, steps: 40 };
+    random_trace(&mut Chance::new(seed), plan)
+}
+
+#[test]
+fn each_is_noticed_and_its_trace_shrinks() {
+    for (wrong, most) in WRONG {
+        let mut tally = Tally::default();
+        let found = (0..500).find_map(|seed| parting(&trace(seed), &wrong, &mut tally).map(|parting| (seed, parting)));
+        let (seed, first) = found.unwrap_or_else(|| panic!("{wrong:?} was not noticed"));
+        let (short, last) = shortest(&trace(seed), first, &wrong);
+        println!("{wrong:?}, found by trace {seed}:\n{short}at step {}, {}\n", last.step, last.what);
+        assert!(short.steps.len() <= most, "{wrong:?}: {short}");
+        let words: usize = short.tables.iter().map(Vec::len).sum();
+        assert!(words <= 12, "{wrong:?}: {short}");
+    }
+}
+
+#[test]
+fn the_second_implementation_does_not_part_from_itself() {
+    for seed in 0..2_000 {
+        assert_eq!(parting(&trace(seed), &Second, &mut Tally::default()), None);
+    }
+}
