@@ -1,7 +1,9 @@
--- Document 01, "Word table": how records lie in the words. Nothing else in the project knows it.
--- W2, a line number after the head: recordWords and rulesWithin; a Due after Head in Check.antt and src/; record-at in proofs/Places.antt.
+-- Document 01, "Word table": how records lie in the words. Two crates above still say parts of it: least by place (at + 1, at + 2), and
+-- sheetwords where it fills a buffer (putWords, counted).
+-- W2, a line number after the head: recordWords, rulesWithin, ruleAt and afterRecord here, GROUPS and BODY in src/; a Due after Head in Check.antt
+-- and src/; record-at in proofs/Places.antt; wordsOf (rulesOf t) ≡ t, unless rules carry the number; and the two crates above.
 -- W10, IN words: literalFault in Check.antt where they are allowed; nothing here, since an IN word is one word of a group.
--- W13, brackets that count as one in k: groupWords, takeGroups and dropGroups; a Due inside a bracket; group-at in proofs/Places.antt.
+-- W13, brackets that count as one in k: groupWords, takeGroups and dropGroups; a Due inside a bracket; group-at in proofs/Places.antt; and the two crates above.
 use mathlib.Core.List.{List, [], _∷_, _++_}
 use Prim.Native.Nat.{ℕ, zero, suc, _+_}
 use lib.ListN.{length, getD, take, drop}
