@@ -4,10 +4,12 @@ use mathlib.Core.List.{List}
 use mathlib.Core.Logic.{_↔_}
 use mathlib.Core.Path.{_≡_}
 use Prim.Native.Nat.{ℕ, _<_}
-use Rattle.paper.specs.Rules.{Rule, OneRulePerHead, HeadsBelow, positive, _∈_}
-use Rattle.paper.specs.Definitions.{Interpretation, value, Model, WellSupported, SmallestWellSupported, Smallest, _⊆_}
+use Rattle.paper.specs.Table1.{𝐢, not′}
+use Rattle.paper.specs.Rules.{Rule, OneRulePerHead, HeadsBelow, positive, negation, _∈_}
+use Rattle.paper.specs.Definitions.{Interpretation, value, bodyValue, Model, WellSupported, SmallestWellSupported, Smallest, _⊆_}
 use Rattle.paper.specs.Marking.{Marks, Marked, Unmarked, CanBeMarked, Settled, Marking, noMarks, count, Pass, Passes, IsHeld, inconsistent, settledValue}
 use Rattle.paper.specs.Examples.{Example, Says, AlsoWellSupported, OnlyAModel, allButNegativeB, examples, P2, P6, P10}
+use Rattle.paper.proofs.Values.{𝐢-implies, value-negation}
 use Rattle.paper.proofs.Leasts.{can-be-marked-mono}
 use Rattle.paper.proofs.Settled as rooms-settled
 use Rattle.paper.proofs.Order as rooms-order
@@ -93,3 +95,11 @@ P6-has-a-second = rooms-examples.P6-also
 -- (8) asks that the body is exactly i: a t body does not serve the negation
 pub P10-has-a-model-that-is-not : OnlyAModel P10 allButNegativeB
 P10-has-a-model-that-is-not = rooms-examples.P10-only-a-model
+
+-- "p: a" with a i makes p i, not t: in a model the head of an i body is i
+pub inconsistent-body-makes-head-inconsistent : (R : List Rule) (I : Interpretation) → Model R I → (ρ : Rule) → ρ ∈ R → bodyValue I (ρ .groups) ≡ 𝐢 → value I (ρ .head) ≡ 𝐢
+inconsistent-body-makes-head-inconsistent R I m ρ k e = 𝐢-implies (value I (ρ .head)) (rw e at (m ρ k))
+
+-- the value of a negation is Table 1's NOT
+pub value-of-the-negation : (I : Interpretation) (l : ℕ) → value I (negation l) ≡ not′ (value I l)
+value-of-the-negation I l = value-negation I l

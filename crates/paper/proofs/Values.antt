@@ -6,7 +6,7 @@ use mathlib.Core.Path.{_≡_, refl, subst, subst⁻¹, sym, ap, _∙_}
 use Prim.Native.Nat.{ℕ, zero, suc, _≤_, _<_, min, max}
 use native.Mathlib.Omega.{arith}
 use lib.Dec.{T, leb, leb→le, nleb→lt}
-use Rattle.paper.specs.Table1.{Value, 𝐟, 𝐮, 𝐢, 𝐭, code, _and_, _or_, _implies_}
+use Rattle.paper.specs.Table1.{Value, 𝐟, 𝐮, 𝐢, 𝐭, code, _and_, _or_, not′, _implies_}
 use Rattle.paper.specs.Rules.{negation, _∈_}
 use Rattle.paper.specs.Definitions.{Interpretation, byMembership, value, groupValue, anyValue, bodyValue}
 use Rattle.paper.proofs.Tests.{T?, T→true, not→false}
@@ -189,3 +189,23 @@ implies-𝐢 𝐟 = refl
 implies-𝐢 𝐮 = refl
 implies-𝐢 𝐢 = refl
 implies-𝐢 𝐭 = refl
+
+-- from an i body only i follows
+pub 𝐢-implies : (h : Value) → (𝐢 implies h) ≡ 𝐭 → h ≡ 𝐢
+𝐢-implies 𝐟 e = let k : _≡_ {A = ℕ} 0 3 = ap code e in absurd (omega arith)
+𝐢-implies 𝐮 e = let k : _≡_ {A = ℕ} 0 3 = ap code e in absurd (omega arith)
+𝐢-implies 𝐢 e = refl
+𝐢-implies 𝐭 e = let k : _≡_ {A = ℕ} 0 3 = ap code e in absurd (omega arith)
+
+-- the negation has Table 1's NOT of the value
+pub value-negation : (I : Interpretation) (l : ℕ) → value I (negation l) ≡ not′ (value I l)
+value-negation I l = ap (byMembership (I (negation l))) (ap I (twice l)) ∙ go (I l) (I (negation l))
+  where
+    twice : (x : ℕ) → negation (negation x) ≡ x
+    twice x = omega arith
+
+    go : (p n : Bool) → byMembership n p ≡ not′ (byMembership p n)
+    go true true = refl
+    go true false = refl
+    go false true = refl
+    go false false = refl
