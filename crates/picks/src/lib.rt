@@ -130,6 +130,15 @@ pub fn pick_by_value(record: MarkRecord, table: &[u16], atom: u64) -> Picked
     mark_atom(n, marks, table, atom)
 }
 
+// A pick of an atom: it alters at most that atom's mark in the record it is lent.
+pub fn pick(record: &mut MarkRecord, table: &[u16], atom: u64) -> PickAnswer
+    ensures { λ r. ⌜ PickAllows (now («record» .entry)) (now (table .entry)) atom r (now («record» .exit)) ⌝ }
+{
+    let picked = pick_by_value(*record, table, atom);
+    *record = picked.record;
+    picked.answer
+}
+
 fn settled_fault(n: u64, marks: &[u64], table: &[u16]) -> Checked
     ensures { λ r. ⌜ r ≡ settledFault n (member (now (marks .entry))) (now (table .entry)) ⌝ }
 {
