@@ -139,6 +139,15 @@ pub fn pick(record: &mut MarkRecord, table: &[u16], atom: u64) -> PickAnswer
     picked.answer
 }
 
+// A pick for a caller that has N and the marks as numbers: they are made a record, and the record is lent.
+pub fn pick_numbers(n: u64, marks: [u64; 8], table: &[u16], atom: u64) -> Picked
+    ensures { λ r. ⌜ PickAllows (record { n = n; marks = marks }) (now (table .entry)) atom (r .answer) (r .record) ⌝ }
+{
+    let mut record = MarkRecord { n, marks };
+    let answer = pick(&mut record, table, atom);
+    Picked { answer, record }
+}
+
 fn settled_fault(n: u64, marks: &[u64], table: &[u16]) -> Checked
     ensures { λ r. ⌜ r ≡ settledFault n (member (now (marks .entry))) (now (table .entry)) ⌝ }
 {
@@ -217,7 +226,8 @@ fn report_settled(n: u64, marks: [u64; 8], table: &[u16], values: &mut [u8]) -> 
     requires { ⌜ reportFault n (member marks) (now table) (length (now values)) ≡ Checked.Accepted ⌝ }
     ensures { λ r. ⌜ ReportAllows (record { n = n; marks = marks }) (now (table .entry)) (now (values .entry)) r (now (values .exit)) ⌝ }
 {
-    if marking::can_go_on(table, &marks, n as usize) {
+    let goes_on = marking::can_go_on(table, &marks, n as usize);
+    if goes_on {
         return ReportAnswer::Refused(Refusal {
             number: refusal::NOT_SETTLED,
             place: 0,
