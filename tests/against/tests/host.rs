@@ -167,7 +167,6 @@ mod evaluate {
     }
 }
 
-#[cfg(simmerknot_sheet)]
 mod sheet {
     use super::BEFORE;
     use against::cases::{Tally, cases};
