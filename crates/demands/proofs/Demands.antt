@@ -40,7 +40,7 @@ use Rattle.evaluation.specs.Evaluation.{evaluationFault, EvaluationAllows}
 use Rattle.evaluation.proofs.Evaluated as evaluated
 use Rattle.evaluation.proofs.Laws.{evaluation-determined, evaluation-equals-report}
 use Rattle.reader.specs.declared.Next.{Next}
-use Rattle.reader.specs.Readings.{readingAt, nextAt}
+use Rattle.reader.specs.Readings.{readingAt, nextAt, GivesOnly, NoLiteral, reached}
 use Rattle.reader.proofs.Laws as reader
 use Rattle.sheetwords.specs.Sheets.{Sofar, sheetOutcome}
 use Rattle.sheetwords.specs.Sheets as sheet
@@ -180,13 +180,13 @@ host-evaluation-refused N bytes room e o = host-determined N bytes room o (HostE
 pub reader-determined : (s : List ℕ) (p : ℕ) (x y : Next) → x ≡ nextAt s p → y ≡ nextAt s p → x ≡ y
 reader-determined = reader.reading-determined
 
-pub reader-refuses : (s : List ℕ) (p : ℕ) → reader.GivesOnly (readingAt s p)
+pub reader-refuses : (s : List ℕ) (p : ℕ) → GivesOnly (readingAt s p)
 reader-refuses = reader.gives-only-8-10-11
 
-pub reader-same-again : (s : List ℕ) (p : ℕ) → reader.NoLiteral (readingAt s p) → nextAt s (nextAt s p .place) ≡ nextAt s p
+pub reader-same-again : (s : List ℕ) (p : ℕ) → NoLiteral (readingAt s p) → nextAt s (nextAt s p .place) ≡ nextAt s p
 reader-same-again = reader.same-again
 
-pub reader-ends : (s : List ℕ) → reader.NoLiteral (readingAt s (reader.reached s 0 (length s + 1)))
+pub reader-ends : (s : List ℕ) → NoLiteral (readingAt s (reached s 0 (length s + 1)))
 reader-ends = reader.reader-ends
 
 module _ (s : List ℕ) (wordRoom nameRoom : ℕ) (text : List ℕ) where
