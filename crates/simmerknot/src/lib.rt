@@ -1,3 +1,4 @@
+ghost use mathlib.Core.Path.{_≡_};
 ghost use Rattle.host.specs.Evaluation.{HostEvaluation};
 
 // Evaluation for a host in C: include/simmerknot.h says how it is used.
@@ -6,4 +7,12 @@ pub extern "C" fn simmerknot_evaluate(n: u64, table: &[u8], values: &mut [u8]) -
     ensures { λ a. ⌜ HostEvaluation n (now (table .entry)) (now (values .entry)) a (now (values .exit)) ⌝ }
 {
     host::evaluate_bytes(n, table, values)
+}
+
+// SIMMERKNOT_VERSION of include/simmerknot.h: 1,000,000 × major + 1,000 × minor + patch.
+#[no_mangle]
+pub extern "C" fn simmerknot_version() -> u64
+    ensures { λ v. ⌜ v ≡ 1000 ⌝ }
+{
+    1000
 }
