@@ -1,5 +1,6 @@
 ghost use mathlib.Core.Path.{_≡_};
 ghost use Rattle.host.specs.Evaluation.{HostEvaluation};
+ghost use Rattle.hostsheet.specs.SheetBytes.{HostSheet};
 
 // Evaluation for a host in C: include/simmerknot.h says how it is used.
 #[no_mangle]
@@ -7,6 +8,19 @@ pub extern "C" fn simmerknot_evaluate(n: u64, table: &[u8], values: &mut [u8]) -
     ensures { λ a. ⌜ HostEvaluation n (now (table .entry)) (now (values .entry)) a (now (values .exit)) ⌝ }
 {
     host::evaluate_bytes(n, table, values)
+}
+
+// The sheet entry for a host in C.
+#[no_mangle]
+pub extern "C" fn simmerknot_sheet(
+    sheet: &[u8],
+    words: &mut [u8],
+    names: &mut [u8],
+    text: &mut [u8],
+) -> u64
+    ensures { λ a. ⌜ HostSheet (now (sheet .entry)) (now (words .entry)) (now (names .entry)) (now (text .entry)) a (now (words .exit)) (now (names .exit)) (now (text .exit)) ⌝ }
+{
+    hostsheet::sheet_bytes(sheet, words, names, text)
 }
 
 // SIMMERKNOT_VERSION of include/simmerknot.h: 1,000,000 × major + 1,000 × minor + patch.

@@ -1,0 +1,155 @@
+-- A refused sheet's number and place have room in the answer. Assumes nothing.
+use mathlib.Core.Bool.{Bool, true, false, not, cond, _&&_}
+use mathlib.Core.List.{List, [], _∷_}
+use mathlib.Core.Path.{_≡_, refl, subst}
+use Prim.Native.Nat.{ℕ, zero, suc, _+_, _*_, _≤_}
+use native.Mathlib.Omega.{arith}
+use lib.Dec.{leb, eqb}
+use lib.ListN.{length, drop}
+use borrow.Author.Tests.{leb-true}
+use Rattle.refusal.specs.declared.Refusal.{Refusal}
+use Rattle.refusal.specs.Numbers.{never-settled, text-room-too-small}
+use Rattle.paper.specs.Table1.{code}
+use Rattle.paper.specs.Rules.{positive}
+use Rattle.paper.specs.Definitions.{value}
+use Rattle.words.specs.declared.Checked.{Checked}
+use Rattle.words.specs.declared.Checked.the-variants.{Accepted, Refused as Faulty}
+use Rattle.words.proofs.Bounds.{Within, asking-within}
+use Rattle.reader.specs.declared.Role.{Role}
+use Rattle.reader.specs.declared.Role.the-variants.{Head, First, Further}
+use Rattle.reader.specs.declared.SheetLiteral.{SheetLiteral}
+use Rattle.reader.specs.declared.Reading.{Reading}
+use Rattle.reader.specs.declared.Reading.the-variants.{End, Refused as NotRead, Literal}
+use Rattle.reader.specs.Sheet.{byteAt, isLineEnd, isTab, isSpace, isMinus, startsName, nameRun, mayFollow, byteBefore}
+use Rattle.reader.specs.Readings.{asking, endedName, nameAt, literalAt, lineAt, readingAfter, readingAt, placeAfter}
+use Rattle.reader.proofs.Laws.{literal-read}
+use Rattle.sheetwords.specs.Sheets.{Sofar, Outcome, accepted, refused, nothing, after, isHead, literalFault, faultWith, unless, byReading, demanding, sheetFrom, sheetOutcome}
+use Rattle.sheetwords.proofs.Laws.{sheet-within}
+use Rattle.valuesheet.specs.ValueSheet.{hasLine, lineBytes, bytesFrom}
+use Rattle.valuesheet.proofs.Printing.{lines-length}
+use Rattle.sheets.specs.declared.SheetAnswer.{SheetAnswer}
+use Rattle.sheets.specs.SheetEntry.{SheetAllows, sheetOf}
+use Rattle.host.specs.Evaluation.{Packable}
+use Rattle.hostsheet.specs.SheetBytes.{HasRoom}
+
+-- no refusal's place is further than this: a name's 25th byte, just past the longest sheet
+abbrev furthest : ℕ
+furthest = 65561
+
+abbrev Small : Refusal → Type 0
+Small f = (f .number ≤ 18) × (f .place ≤ furthest)
+
+-- the reader's refusals
+abbrev SmallReading : Reading → Type 0
+SmallReading End = Unit {0}
+SmallReading (NotRead f) = Small f
+SmallReading (Literal l) = Unit {0}
+
+asking-small : (b : Bool) (f : Refusal) (rest : Reading) → Small f → (b ≡ true → SmallReading rest) → SmallReading (asking b f rest)
+asking-small true f rest h on = on refl
+asking-small false f rest h on = h
+
+cond-small : (b : Bool) (x y : Reading) → SmallReading x → SmallReading y → SmallReading (cond b x y)
+cond-small true x y h k = h
+cond-small false x y h k = k
+
+ended-small : (s : List ℕ) (q n : ℕ) (negated : Bool) (role : Role) → q ≤ 65537 → SmallReading (endedName s q n negated role)
+unfolding endedName
+ended-small s q n negated role h =
+    asking-small (leb n 24) _ _ (omega arith, omega arith)
+    (λ e. asking-small (mayFollow role (byteAt s (q + n))) _ _ (omega arith, omega (arith, leb-true n 24 e)) (λ e′. tt))
+
+name-small : (s : List ℕ) (q : ℕ) (negated : Bool) (role : Role) → q ≤ 65537 → SmallReading (nameAt s q negated role)
+unfolding nameAt
+name-small s q negated role h =
+    asking-small (startsName (byteAt s q)) _ _ (omega arith, omega arith) (λ e. ended-small s q (nameRun (drop q s)) negated role h)
+
+literal-small : (s : List ℕ) (p : ℕ) (role : Role) → p ≤ 65536 → SmallReading (literalAt s p role)
+unfolding literalAt
+literal-small s p role h = cond-small (isMinus (byteAt s p)) _ _ (name-small s (p + 1) true role (omega arith)) (name-small s p false role (omega arith))
+
+after-small : (s : List ℕ) (p : ℕ) → p ≤ 65536 → SmallReading (readingAfter (byteBefore s p) s p)
+unfolding readingAfter lineAt
+after-small s p h =
+    cond-small (isLineEnd (byteBefore s p)) _ _ (cond-small (eqb p (length s)) _ _ tt (literal-small s p Head h))
+    (cond-small (isTab (byteBefore s p)) _ _ (literal-small s p First h)
+    (cond-small (isSpace (byteBefore s p)) _ _ (literal-small s p Further h) (omega arith, omega arith)))
+
+reading-small : (s : List ℕ) (p : ℕ) → SmallReading (readingAt s p)
+unfolding readingAt
+reading-small s p =
+    asking-small (leb (length s) 65536) _ _ (omega arith, omega arith)
+    (λ e. let short = leb-true (length s) 65536 e in
+    asking-small (leb p (length s)) _ _ (omega arith, omega arith)
+    (λ e′. after-small s p (omega (arith, leb-true p (length s) e′))))
+
+-- the refusals of a sheet's literals
+abbrev SmallOutcome : Outcome → Type 0
+SmallOutcome (accepted x) = Unit {0}
+SmallOutcome (refused f) = Small f
+
+fault-small : (names : ℕ) (repeated : Bool) (body words p q : ℕ) → p ≤ furthest → q ≤ furthest → Within furthest (faultWith names repeated body words p q)
+unfolding faultWith
+fault-small names repeated body words p q h k =
+    asking-within furthest (leb names 512) _ _ (omega arith, k)
+    (asking-within furthest (not repeated) _ _ (omega arith, h)
+    (asking-within furthest (leb body 64) _ _ (omega arith, h) (asking-within furthest (leb words 8192) _ _ (omega arith, h) tt)))
+
+literal-fault-small : (s : List ℕ) (p : ℕ) (sofar : Sofar) (l : SheetLiteral) → p ≤ furthest → l .start ≤ furthest → Within furthest (literalFault s p sofar l)
+unfolding literalFault
+literal-fault-small s p sofar l h k = fault-small _ _ _ _ p (l .start) h k
+
+unless-small : (c : Checked) (o : Outcome) → Within furthest c → SmallOutcome o → SmallOutcome (unless c o)
+unless-small Accepted o h k = k
+unless-small (Faulty f) o h k = h
+
+step-small : (s : List ℕ) (n p : ℕ) (sofar : Sofar) → ((q : ℕ) (x : Sofar) → SmallOutcome (sheetFrom n s q x))
+    → (r : Reading) → readingAt s p ≡ r → SmallOutcome (byReading s p sofar r (sheetFrom n s (placeAfter r p)))
+step-small s n p sofar onward End is = tt
+step-small s n p sofar onward (NotRead f) is = subst SmallReading is (reading-small s p)
+step-small s n p sofar onward (Literal l) is =
+    let known = literal-read s p l is in
+    let named = known .named in
+    unless-small (literalFault s p sofar l) (sheetFrom n s (placeAfter (Literal l) p) (after s sofar l))
+    (literal-fault-small s p sofar l (omega (arith, known .sheet-fits)) (omega (arith, known .sheet-fits)))
+    (onward (placeAfter (Literal l) p) (after s sofar l))
+
+from-small : (n : ℕ) (s : List ℕ) (p : ℕ) (sofar : Sofar) → SmallOutcome (sheetFrom n s p sofar)
+unfolding sheetFrom
+from-small zero s p sofar = tt
+from-small (suc n) s p sofar = step-small s n p sofar (λ q x. from-small n s q x) (readingAt s p) refl
+
+demanding-small : (b : Bool) (f : Refusal) (o : Outcome) → Small f → SmallOutcome o → SmallOutcome (demanding b f o)
+demanding-small true f o h k = k
+demanding-small false f o h k = h
+
+outcome-small : (s : List ℕ) (wordRoom nameRoom : ℕ) → SmallOutcome (sheetOutcome s wordRoom nameRoom)
+unfolding sheetOutcome
+outcome-small s wordRoom nameRoom =
+    demanding-small (leb (length s) 65536) _ _ (omega arith, omega arith)
+    (demanding-small (leb 8192 wordRoom && leb 512 nameRoom) _ _ (omega arith, omega arith) (from-small (length s + 1) s 0 nothing))
+
+-- a line has at most 34 bytes
+line-small : (shown : Bool) (e : ℕ) → lineBytes shown e ≤ 34
+line-small true e = omega arith
+line-small false e = omega arith
+
+lines-small : (heads : ℕ → Bool) (a : ℕ) (es : List ℕ) → bytesFrom heads a es ≤ 34 * length es
+unfolding bytesFrom
+lines-small heads a [] = omega arith
+lines-small heads a (e ∷ es) = omega (arith, line-small (hasLine heads a) e, lines-small heads (suc a) es)
+
+pub has-room : (s : List ℕ) (wordRoom nameRoom : ℕ) (text : List ℕ) {r : SheetAnswer} {ws ns text′ : List ℕ} → SheetAllows s wordRoom nameRoom text r ws ns text′ → HasRoom r
+has-room s wordRoom nameRoom text (SheetAllows.refused {f} e) g same =
+    let small : Small f = subst SmallOutcome e (outcome-small s wordRoom nameRoom) in
+    let is : f ≡ g = cc in
+    subst Packable is (record { number-small = omega arith; place-small = omega arith })
+has-room s wordRoom nameRoom text (SheetAllows.never-settles e A m n) g same =
+    let is : never-settled ≡ g = cc in
+    subst Packable is (record { number-small = omega arith; place-small = omega arith })
+has-room s wordRoom nameRoom text (SheetAllows.does-not-fit {x} {I} e i h) g same =
+    let few = sheet-within s wordRoom nameRoom x e .at-most-512 in
+    let is : text-room-too-small (length (sheetOf s x I)) ≡ g = cc in
+    subst Packable is
+    (record { number-small = omega arith; place-small = omega (arith, few, lines-length s (isHead (x .rules)) (λ a. code (value I (positive a))) 0 (x .names), lines-small (isHead (x .rules)) 0 (x .names)) })
+has-room s wordRoom nameRoom text (SheetAllows.accepted {x} {I} e i h) g same = absurd (let z : _≡_ {A = ℕ} 0 1 = cc in omega arith)

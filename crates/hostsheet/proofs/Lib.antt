@@ -1,0 +1,4 @@
+pub mod Laying
+pub mod Rooms
+pub mod Bounds
+pub mod Determined
