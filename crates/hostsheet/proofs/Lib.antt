@@ -1,4 +1,5 @@
 pub mod Laying
 pub mod Rooms
 pub mod Bounds
+pub mod Answers
 pub mod Determined

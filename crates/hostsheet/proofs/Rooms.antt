@@ -2,7 +2,7 @@
 use mathlib.Core.Bool.{Bool, true, false, cond, _&&_, true≢false}
 use mathlib.Core.List.{List, [], _∷_, _++_}
 use mathlib.Core.Path.{_≡_, refl, sym, _∙_, subst₂}
-use Prim.Native.Nat.{ℕ, zero, suc, _+_, _-_, _/_, _≤_}
+use Prim.Native.Nat.{ℕ, zero, suc, _+_, _-_, _≤_}
 use native.Mathlib.Nat.{le-refl}
 use native.Mathlib.Omega.{arith}
 use lib.Dec.{leb}
@@ -11,13 +11,13 @@ use lib.Seq.{ext-getD, getD-drop, length-take-le, length-front}
 use borrow.Author.Tests.{leb-true, le-leb}
 use Rattle.refusal.specs.declared.Refusal.{Refusal}
 use Rattle.words.specs.Layout.{wordsOf}
-use Rattle.sheetwords.specs.Sheets.{Sofar, Outcome, accepted, refused, demanding, sheetOutcome}
+use Rattle.sheetwords.specs.Sheets.{Sofar, Outcome, accepted, demanding, sheetOutcome}
 use Rattle.sheetwords.specs.Buffers.{padded}
 use Rattle.sheetwords.proofs.Turns.{accepted-is-not-refused}
 use Rattle.sheetwords.proofs.Laws.{sheet-within}
 use Rattle.sheets.specs.declared.SheetAnswer.{SheetAnswer}
 use Rattle.sheets.specs.SheetEntry.{SheetAllows}
-use Rattle.hostsheet.specs.SheetBytes.{sized, roomFor, wordsOver, namesOver, answerOf, HostSheet}
+use Rattle.hostsheet.specs.SheetBytes.{sized, roomFor}
 use Rattle.hostsheet.proofs.Laying.{length-sized, sized-at}
 
 -- zeros after a row change none of its entries
@@ -116,11 +116,3 @@ module _ (s : List ℕ) (w n : ℕ) (text : List ℕ) (size size′ : ℕ) where
       to (sym (sized-local size (roomFor 8192 w) w (wordsOf (x .rules)) (omega (arith, within .at-most-8192, room .0))))
       (sym (sized-local size′ (roomFor 512 n) n (x .names) (omega (arith, within .at-most-512, room .1))))
       (SheetAllows.accepted {x = x} {I = I} is i h)
-
-pub host-answers : (s words names text : List ℕ) (w n x y size size′ : ℕ) (r : SheetAnswer) (ws ns text′ : List ℕ) (a : ℕ) (words′ names′ : List ℕ)
-    → w ≡ roomFor 8192 (length words / 2) → n ≡ roomFor 512 (length names / 4) → x ≡ w → y ≡ n → SheetAllows s x y text r ws ns text′
-    → words′ ≡ wordsOver (sized (length words / 2) (local size w ws)) words → names′ ≡ namesOver (sized (length names / 4) (local size′ n ns)) names
-    → a ≡ answerOf r → HostSheet s words names text a words′ names′ text′
-host-answers s words names text w n x y size size′ r ws ns text′ a words′ names′ ew en ex ey allowed e f g =
-    let in-rooms = subst₂ (λ (p q : ℕ). SheetAllows s p q text r ws ns text′) (ex ∙ ew) (ey ∙ en) allowed in
-    rw (g, e, f, ew, en) (HostSheet.answered (in-longer s (length words / 2) (length names / 4) text size size′ in-rooms))

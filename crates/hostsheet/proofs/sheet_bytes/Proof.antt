@@ -1,6 +1,7 @@
 use borrow.Author.Needs.{needs}
 use mathlib.Core.Path.{sym}
-use Rattle.hostsheet.proofs.Rooms.{length-lent, length-local, host-answers}
+use Rattle.hostsheet.proofs.Rooms.{length-lent, length-local}
+use Rattle.hostsheet.proofs.Answers.{host-answers}
 use Rattle.hostsheet.proofs.Bounds.{has-room}
 use Rattle.hostsheet.proofs.sheet_bytes.Statement.{statement}
 use Rattle.hostsheet.proofs.sheet_bytes.Tie as tie
