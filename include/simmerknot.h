@@ -29,8 +29,8 @@
  * - It takes any bytes and any lengths, ends, and answers by one number; simmerknot_refused tells which kind it is.
  * - A pointer and the length after it name one lent buffer. Where the length is 0 any pointer will do, NULL too.
  * - No buffer that is written may overlap another lent buffer.
- * - Nothing outside the lent buffers is read or written, but the stack (README.md says how much). No memory is kept, taken or
- *   given back, so calls from several threads do not meet unless they lend the same buffer.
+ * - Nothing outside the lent buffers is read or written, but less than 20 KiB of stack (measured, tests/stack.c). No memory is kept,
+ *   taken or given back, so calls from several threads do not meet unless they lend the same buffer.
  */
 #ifndef SIMMERKNOT_H
 #define SIMMERKNOT_H
