@@ -137,7 +137,7 @@ fn stop(why: &str) -> ! {
 
 fn evaluated(n: u64, words: &[u16]) -> (Vec<Rule>, Vec<u8>) {
     let mut values = vec![0; n as usize];
-    second::yardstick::counters(n, words, &mut values).expect("an accepted table");
+    second::model::evaluate(n, words, &mut values).expect("an accepted table");
     (parse(n, words).expect("an accepted table"), values)
 }
 
