@@ -1,27 +1,13 @@
 use sheets::SheetAnswer;
 ghost use mathlib.Core.Path.{_≡_};
 ghost use Prim.Native.Nat.{_+_, _/_, _%_, _<_, _≤_};
-ghost use lib.ListN.{length, getD, set};
+ghost use lib.ListN.{length, set};
 ghost use Rattle.hostsheet.specs.SheetBytes.{sized, roomFor, wordsOver, namesOver, answerOf, HasRoom, HostSheet};
 
 fn low_byte(x: usize) -> u8
     ensures { λ r. ⌜ r ≡ x % 256 ⌝ }
 {
     (x % 256) as u8
-}
-
-fn wide(e: u32) -> usize
-    ensures { λ r. ⌜ (r ≡ e) × (r < 4294967296) ⌝ }
-{
-    e as usize
-}
-
-// The entry at `i`, 0 past the end.
-fn entry(names: &[u32], i: usize) -> usize
-    ensures { λ r. ⌜ r ≡ getD (now (names .entry)) i 0 ⌝ }
-    ensures { λ r. ⌜ r < 4294967296 ⌝ }
-{
-    if i < names.len() { wide(names[i]) } else { 0 }
 }
 
 // A word as two bytes, low byte first.
@@ -65,7 +51,7 @@ fn put_names(names: &[u32], bytes: &mut [u8])
     let whole = bytes.len() / 4;
     let mut i: usize = 0;
     while i < whole {
-        put_name(bytes, 4 * i, entry(names, i));
+        put_name(bytes, 4 * i, names::entry(names, i));
         i += 1;
     }
 }

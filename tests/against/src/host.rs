@@ -1,11 +1,8 @@
-//! The host's two entries, over bytes; the sheet entry is here once libsimmerknot.a has it.
+//! The host's two entries, over bytes.
 
 unsafe extern "C" {
     fn simmerknot_evaluate(n: u64, table: *const u8, table_len: usize, values: *mut u8, values_len: usize) -> u64;
-}
 
-#[cfg(simmerknot_sheet)]
-unsafe extern "C" {
     fn simmerknot_sheet(
         sheet: *const u8,
         sheet_len: usize,
@@ -29,7 +26,6 @@ pub fn evaluate_nulls(n: u64) -> u64 {
 }
 
 /// The sheet entry, lent these very slices.
-#[cfg(simmerknot_sheet)]
 pub fn sheet(sheet: &[u8], words: &mut [u8], names: &mut [u8], text: &mut [u8]) -> u64 {
     let (w, n, t) = (words.len(), names.len(), text.len());
     let (words, names, text) = (words.as_mut_ptr(), names.as_mut_ptr(), text.as_mut_ptr());
@@ -37,7 +33,6 @@ pub fn sheet(sheet: &[u8], words: &mut [u8], names: &mut [u8], text: &mut [u8]) 
 }
 
 /// The sheet entry with null pointers for the sheet and for every buffer that is empty.
-#[cfg(simmerknot_sheet)]
 pub fn sheet_nulls(words: &mut [u8], names: &mut [u8]) -> u64 {
     let lend = |row: &mut [u8]| if row.is_empty() { std::ptr::null_mut() } else { row.as_mut_ptr() };
     let (w, n) = (words.len(), names.len());
