@@ -80,7 +80,7 @@ extern "C" {
  * Untouched: `table`; the bytes of `values` past n; all of `values` on a refusal. */
 uint64_t simmerknot_evaluate(uint64_t n, const uint8_t *table, size_t table_len, uint8_t *values, size_t values_len);
 
-/* Reads a rule sheet (docs/SHEETS.md has its layout) and writes its value sheet.
+/* Reads a rule sheet (its layout: simmer(1), docs/SHEETS.md) and writes its value sheet.
  *
  * Read: `sheet`.
  * Answered: the value sheet's length, else a refusal: 8, 9, then the first literal with a fault by 10, 11, 12, 7, 13 or 14, then
