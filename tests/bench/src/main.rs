@@ -1,16 +1,22 @@
-//! Evaluation's speed beside the second implementation and the yardsticks: plain rereading by the same method, and counters.
+//! Evaluation's speed beside the second implementation and the yardsticks, plain rereading by the same method, and counters; then
+//! reading's (`reading`).
 //!
 //! From tests/, after `rt staticlib probe` and `rt staticlib simmerknot`: `cargo run --release -p bench`. Both sides are
 //! in this binary. The four take turns, one evaluation each, for 2 seconds a table or 401 turns, and 11 turns at least; the
 //! value room is written anew by each and not cleared between. Every turn's values are compared. Times are medians in
 //! microseconds, ratios those of the medians.
 
+mod reading;
+mod turns;
+
+use std::array::from_fn;
 use std::hint::black_box;
-use std::time::{Duration, Instant};
 
 use second::random::table_bytes;
 use second::tables::MEASURED;
 use second::yardstick;
+
+use crate::turns::timed;
 
 /// The engine through the host's entry, on the table's bytes.
 fn engine(n: u64, _words: &[u16], bytes: &[u8], values: &mut [u8]) {
@@ -36,22 +42,11 @@ const EVALUATORS: [Evaluator; 4] = [engine, plain, counters, reference];
 /// The medians of the four, in microseconds, and how many turns they took.
 fn medians(n: u64, words: &[u16], bytes: &[u8]) -> ([f64; 4], usize) {
     let mut rooms = [(); 4].map(|()| vec![0; n as usize]);
-    let mut times = [(); 4].map(|()| Vec::new());
-    let started = Instant::now();
-    while times[0].len() < 11 || (times[0].len() < 401 && started.elapsed() < Duration::from_secs(2)) {
-        for (i, evaluator) in EVALUATORS.into_iter().enumerate() {
-            let start = Instant::now();
-            evaluator(n, black_box(words), black_box(bytes), black_box(&mut rooms[i]));
-            times[i].push(start.elapsed().as_secs_f64() * 1e6);
-        }
+    turns::medians(|| {
+        let times = from_fn(|i| timed(|| EVALUATORS[i](n, black_box(words), black_box(bytes), black_box(&mut rooms[i]))));
         assert!(rooms.iter().all(|room| *room == rooms[0]), "the values differ");
-    }
-    let turns = times[0].len();
-    let medians = times.map(|mut times| {
-        times.sort_by(f64::total_cmp);
-        times[times.len() / 2]
-    });
-    (medians, turns)
+        times
+    })
 }
 
 fn main() {
@@ -70,4 +65,5 @@ fn main() {
             engine / counters
         );
     }
+    reading::print();
 }

@@ -1,22 +1,20 @@
-use borrow.Author.Needs.{needs}
-use mathlib.Core.Path.{sym, ap, _∙_}
+use mathlib.Core.Path.{sym}
 use native.Mathlib.Omega.{arith}
-use Rattle.names.specs.Names.{bytesAt, sameBytes}
 use Rattle.names.proofs.Steps.{other-length-name}
 use Rattle.names.proofs.has_name.Statement.{statement}
 use Rattle.names.proofs.has_name.Tie as tie
 
-same-bytes-requires : tie.Need-same-bytes-requires
-same-bytes-requires c κs =
+same-name-requires : tie.Need-same-name-requires
+same-name-requires c κs =
     (omega arith, omega arith)
 
 returns : tie.Need-returns
 returns c =
-    rw (c .before .if1 .taken) (c .same-bytes .ensures)
+    rw (c .before .if1 .taken) (c .same-name .ensures)
 
 returns-2 : tie.Need-returns-2
 returns-2 c =
     sym (other-length-name (c .before .before .args .sheet .now) (c .before .before .args .e) (c .before .before .args .start) (c .before .before .args .len) (c .if1 .left))
 
 pub has-name-spec : {M : Type 1} → statement M
-has-name-spec = tie.close (tie.spec same-bytes-requires returns returns-2)
+has-name-spec = tie.close (tie.spec same-name-requires returns returns-2)
