@@ -12,9 +12,10 @@ use Rattle.words.specs.Check.{asking, orElse, tableCheck, AcceptedTable}
 use Rattle.words.specs.Layout.{rulesOf}
 use Rattle.words.proofs.Steps.{asking-accepted, orElse-accepted}
 use Rattle.words.proofs.Laws.{accepted-one-rule}
-use Rattle.paper.specs.Rules.{Rule, positive}
+use Rattle.paper.specs.Rules.{Rule, HeadsBelow, positive}
 use Rattle.paper.specs.Definitions.{value}
-use Rattle.paper.specs.Marking.{Held, Marking, none, noMarks, settledValue}
+use Rattle.paper.specs.Marking.{Held, IsClean, Marking, none, noMarks, settledValue}
+use Rattle.paper.proofs.Leasts.{clean→held, held→clean}
 use Rattle.paper.proofs.Settled.{settledValue-is}
 use Rattle.paper.proofs.Smallest.{settled-smallest}
 use Rattle.bits.specs.Sets.{member}
@@ -24,22 +25,26 @@ use Rattle.marking.specs.Faults.{tableTooLong, roomTooSmall}
 use Rattle.picks.specs.Entries.{written}
 use Rattle.evaluation.specs.declared.EvaluationAnswer.{EvaluationAnswer}
 use Rattle.evaluation.specs.Evaluation.{evaluationFault, tooManyAtoms, EvaluationAllows}
-use Rattle.evaluation.specs.Rounds.{Begun, Settling}
+use Rattle.evaluation.specs.Rounds.{RoundOver, Begun, Settling}
+use Rattle.evaluation.proofs.Rounds.{round-over}
 
 -- no marks, nothing held yet
-pub settling-starts : (R : List Rule) → Settling R (replicate 8 0) (replicate 16 0) true
-settling-starts R =
+begins : (R : List Rule) → Begun R (replicate 8 0) (replicate 16 0)
+begins R =
     record {
-      begun =
-          record {
-            marks-length = refl;
-            held-length = refl;
-            made = 0;
-            marking = subst⁻¹ (λ (A : ℕ → Bool). Marking R 0 A) (fun-ext (member-of-zeros 8)) none;
-            held = λ l t. none-held R (member (replicate 8 0)) l t;
-          };
-      settled = λ e. absurd (mathlib.Core.Bool.true≢false e);
+      marks-length = refl;
+      held-length = refl;
+      made = 0;
+      marking = subst⁻¹ (λ (A : ℕ → Bool). Marking R 0 A) (fun-ext (member-of-zeros 8)) none;
+      held = λ l t. none-held R (member (replicate 8 0)) l t;
     }
+
+-- the first round: with no marks the clean literals are the held ones
+pub first-round : (R : List Rule) (n : ℕ) → HeadsBelow n R → (h s′ : List ℕ) (any : Bool) → length h ≡ 16 → IsClean R (member (replicate 8 0)) (member h)
+    → RoundOver (replicate 8 0) (member h) (member h) n any s′ → Settling R s′ h any
+first-round R n below h s′ any len clean o =
+    round-over R n below (replicate 8 0) (replicate 16 0) h h s′ any (begins R) len
+    (λ l. ((λ t. clean→held (member (replicate 8 0)) (clean l .0 t)), λ d. clean l .1 (held→clean (member (replicate 8 0)) (member-of-zeros 8) d))) clean o
 
 pub evaluation-accepted : (N : ℕ) (t : List ℕ) (room : ℕ) → evaluationFault N t room ≡ Accepted → (N ≤ 512) × AcceptedTable N t × (N ≤ room)
 unfolding evaluationFault

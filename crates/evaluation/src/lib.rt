@@ -70,14 +70,15 @@ pub struct Marking {
     pub held: [u64; 16],
 }
 
-// From no marks, rounds until one marks nothing.
+// Rounds until one marks nothing; in the first there are no marks, and the held literals are the clean ones.
 fn settle(table: &[u16], n: usize) -> Marking
     requires { ⌜ (n ≤ 512) × Records (now table) 0 × HeadsBelow n (rulesOf (now table)) ⌝ }
     ensures { λ r. ⌜ Settling (rulesOf (now (table .entry))) (r .marks) (r .held) Bool.false ⌝ }
 {
     let mut marks = [0u64; 8];
-    let mut held = [0u64; 16];
-    let mut again = true;
+    let mut held = least::clean(table, &marks);
+    let clean = held;
+    let mut again = mark_all(&mut marks, &held, &clean, n);
     while again {
         again = round(table, &mut marks, &mut held, n);
     }

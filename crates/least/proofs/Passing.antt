@@ -1,74 +1,56 @@
 -- A record passed, a pass over all of them. Assumes nothing.
-use mathlib.Core.Bool.{Bool, true, false, not, cond, _&&_, _||_}
-use mathlib.Core.List.{List, [], _∷_, _++_, List·Memᴰ·head, List·Memᴰ·tail}
-use mathlib.Core.Path.{_≡_, refl, sym, ap, ap₂, _∙_, subst, subst⁻¹}
-use Prim.Native.Nat.{ℕ, zero, suc, _+_, _-_, _*_, _/_, _≤_, _<_}
+use mathlib.Core.Bool.{Bool, true, false, not, _&&_, _||_}
+use mathlib.Core.List.{List, [], _∷_, List·Memᴰ·head, List·Memᴰ·tail}
+use mathlib.Core.Path.{_≡_, refl, sym, ap, ap₂, _∙_, subst}
+use Prim.Native.Nat.{ℕ, suc, _*_, _/_, _≤_, _<_}
 use native.Mathlib.Omega.{arith}
 use lib.Dec.{T, eqb}
-use lib.ListN.{length, getD, take, drop, length-drop, length-append}
-use lib.Seq.{take-append-seam, drop-append-seam}
-use Rattle.paper.specs.Rules.{Rule, HeadsBelow, _∈_}
+use lib.ListN.{length, getD, drop}
+use Rattle.paper.specs.Rules.{Rule, _∈_}
 use Rattle.paper.specs.Marking.{Marks, mark, count}
-use Rattle.paper.proofs.Closure.{wholly, someWholly, noGroups, fires}
+use Rattle.paper.proofs.Closure.{someWholly, noGroups, fires}
 use Rattle.paper.proofs.Counting.{count-mark}
-use Rattle.paper.proofs.Tests.{false→not}
 use Rattle.bits.specs.Sets.{member, putIn}
 use Rattle.bits.proofs.Laws.{member-putIn, length-putIn}
-use Rattle.words.specs.Layout.{takeGroups, dropGroups, groupsWords, wordsOf, rulesOf, ruleAt, afterRecord}
+use Rattle.words.specs.Layout.{WholeGroups, takeGroups, dropGroups, wordsOf, rulesOf, bodyAt, groupsIn, bodyFrom, ruleAt, afterRecord}
 use Rattle.words.proofs.Places.{RecordAt, record-at, some-record}
-use Rattle.words.proofs.Reading.{takeGroups-groupsWords, dropGroups-groupsWords, rulesOf-wordsOf}
-use Rattle.least.specs.Walk.{WholeGroups, BodyRead, DecidedHead}
+use Rattle.words.proofs.Reading.{takeGroups-groupsWords, dropGroups-groupsWords, length-takeGroups, whole-groups, rulesOf-wordsOf}
+use Rattle.least.specs.Walk.{BodyRead, DecidedHead}
 use Rattle.least.specs.Passing.{skips, adds, stepped, passed, Decided, Records, Moved, Passed}
 
 -- no groups, told by their number
-length-takeGroups : (m : ℕ) (ws : List ℕ) → WholeGroups m ws → length (takeGroups m ws) ≡ m
-unfolding WholeGroups takeGroups
-length-takeGroups zero ws h = refl
-length-takeGroups (suc m) [] h = absurd h
-length-takeGroups (suc m) (k ∷ ws) h = ap suc (length-takeGroups m (drop k ws) (h .1))
-
 noGroups-is : (βs : List (List ℕ)) → noGroups βs ≡ eqb (length βs) 0
 noGroups-is [] = refl
 noGroups-is (β ∷ βs) = sym (lib.Dec.eqb·suc-zero (length βs))
 
-pub decided-head : (S : ℕ → Bool) (t : List ℕ) (at head m : ℕ) (skip fired fires′ adding : Bool) (next : ℕ) → m ≡ getD t (at + 1) 0
-    → WholeGroups (getD t (at + 1) 0) (drop (at + 2) t) → fired ≡ (skip || eqb m 0) → BodyRead S t (at + 2) m fired fires′ next → adding ≡ (not skip && fires′)
+pub decided-head : (S : ℕ → Bool) (t : List ℕ) (at head m : ℕ) (skip fired fires′ adding : Bool) (next : ℕ) → m ≡ groupsIn t at
+    → WholeGroups (groupsIn t at) (bodyFrom t at) → fired ≡ (skip || eqb m 0) → BodyRead S t (bodyAt at) m fired fires′ next → adding ≡ (not skip && fires′)
     → DecidedHead S t at head skip adding head next
 decided-head S t at head m skip fired fires′ adding next em w ef b ea =
     record {
       head-is = refl;
       adds-is = ea ∙ adding-is skip refl;
-      after = b .after ∙ ap (λ (n : ℕ). dropGroups n (drop (at + 2) t)) em;
+      after = b .after ∙ ap (λ (n : ℕ). dropGroups n (bodyFrom t at)) em;
       inside = b .inside;
       further = b .not-before;
     }
   where
     groups : List (List ℕ)
-    groups = takeGroups (getD t (at + 1) 0) (drop (at + 2) t)
+    groups = takeGroups (groupsIn t at) (bodyFrom t at)
 
     facts : eqb m 0 ≡ noGroups groups
-    facts = ap (λ (n : ℕ). eqb n 0) (em ∙ sym (length-takeGroups (getD t (at + 1) 0) (drop (at + 2) t) w)) ∙ sym (noGroups-is groups)
+    facts = ap (λ (n : ℕ). eqb n 0) (em ∙ sym (length-takeGroups (groupsIn t at) (bodyFrom t at) w)) ∙ sym (noGroups-is groups)
 
     adding-is : (s : Bool) → skip ≡ s → (not skip && fires′) ≡ (not skip && fires S (ruleAt t at))
     adding-is true e = rw e
     adding-is false e =
         let f : fired ≡ noGroups groups = ef ∙ ap (λ (x : Bool). x || eqb m 0) e ∙ facts in
-        rw e (b .fires-is ∙ ap₂ (λ (x : Bool) (n : ℕ). x || someWholly S (takeGroups n (drop (at + 2) t))) f em)
-
--- what the words at a record are
-whole-groups : (βs : List (List ℕ)) (rest : List ℕ) → WholeGroups (length βs) (groupsWords βs ++ rest)
-unfolding WholeGroups groupsWords
-whole-groups [] rest = tt
-whole-groups (β ∷ βs) rest =
-    let e = mathlib.Core.List.append-assoc β (groupsWords βs) rest in (
-      (let l = length-append β (groupsWords βs ++ rest) in rw e (omega arith)),
-      rw (e, drop-append-seam β (groupsWords βs ++ rest)) (whole-groups βs rest),
-    )
+        rw e (b .fires-is ∙ ap₂ (λ (x : Bool) (n : ℕ). x || someWholly S (takeGroups n (bodyFrom t at))) f em)
 
 -- the record at a place, and the records after it
 pub record Here (t : List ℕ) (at : ℕ) : Type 0 where
-  pub inside : at + 2 ≤ length t
-  pub whole : WholeGroups (getD t (at + 1) 0) (drop (at + 2) t)
+  pub inside : bodyAt at ≤ length t
+  pub whole : WholeGroups (groupsIn t at) (bodyFrom t at)
   pub rest : List Rule
   pub rules : rulesOf (drop at t) ≡ ruleAt t at ∷ rest
   pub after : afterRecord t at ≡ wordsOf rest
@@ -80,7 +62,7 @@ here t at lt r =
     let R : List Rule = q .1 in
     let e : drop at t ≡ wordsOf (ρ ∷ R) = r .words ∙ ap wordsOf (q .2) in
     let p : RecordAt t at ρ R = record-at t at ρ R e in
-    let groups : takeGroups (getD t (at + 1) 0) (drop (at + 2) t) ≡ ρ .groups =
+    let groups : takeGroups (groupsIn t at) (bodyFrom t at) ≡ ρ .groups =
     ap₂ takeGroups (p .count) (p .groups) ∙ takeGroups-groupsWords (ρ .groups) (wordsOf R)
     in
     record {

@@ -7,10 +7,10 @@ use native.Mathlib.Omega.{arith}
 use native.Mathlib.Numerals.{add-one}
 use lib.ListN.{length, getD, take, drop, length-drop}
 use lib.Seq.{drop-cons, drop-drop}
-use Rattle.words.specs.Layout.{takeGroups, dropGroups}
+use Rattle.words.specs.Layout.{WholeGroups, takeGroups, dropGroups, literalsAt}
 use Rattle.words.proofs.Places.{word-at}
 use Rattle.paper.proofs.Closure.{wholly, someWholly}
-use Rattle.least.specs.Walk.{WholeGroups, BodyRead}
+use Rattle.least.specs.Walk.{BodyRead}
 
 -- the literal at i is looked at: the group holds if it is in the set and the rest holds
 wholly-cons : (S : ℕ → Bool) (t : List ℕ) (i k : ℕ) → i < length t
@@ -47,12 +47,12 @@ or-assoc true b c = refl
 or-assoc false b c = refl
 
 -- a group fits behind its length
-pub group-fits : (t : List ℕ) (at left k : ℕ) → WholeGroups left (drop at t) → 0 < left → k ≡ getD t at 0 → at + 1 + k ≤ length t
+pub group-fits : (t : List ℕ) (at left k : ℕ) → WholeGroups left (drop at t) → 0 < left → k ≡ getD t at 0 → literalsAt at + k ≤ length t
 unfolding WholeGroups
 group-fits t at zero k h lt ek = absurd (omega arith)
 group-fits t at (suc l) k h lt ek = go (drop at t) refl h
   where
-    go : (ws : List ℕ) → drop at t ≡ ws → WholeGroups (suc l) ws → at + 1 + k ≤ length t
+    go : (ws : List ℕ) → drop at t ≡ ws → WholeGroups (suc l) ws → literalsAt at + k ≤ length t
     go [] e w = absurd w
     go (x ∷ ws) e w =
         let p = word-at t at x ws e in
@@ -63,7 +63,7 @@ group-fits t at (suc l) k h lt ek = go (drop at t) refl h
         omega arith
 
 pub body-goes-on : (S : ℕ → Bool) (t : List ℕ) (at left k : ℕ) (fires fires′ : Bool) → WholeGroups left (drop at t) → 0 < left → k ≡ getD t at 0
-    → fires′ ≡ (fires || wholly S (take k (drop (at + 1) t))) → Turned S t at left fires (at + 1 + k) fires′
+    → fires′ ≡ (fires || wholly S (take k (drop (literalsAt at) t))) → Turned S t at left fires (literalsAt at + k) fires′
 unfolding WholeGroups takeGroups dropGroups
 body-goes-on S t at zero k fires fires′ h lt ek ef = absurd (omega arith)
 body-goes-on S t at (suc l) k fires fires′ h lt ek ef = go (drop at t) refl h
@@ -71,12 +71,12 @@ body-goes-on S t at (suc l) k fires fires′ h lt ek ef = go (drop at t) refl h
     less : suc l - 1 ≡ l
     less = omega arith
 
-    go : (ws : List ℕ) → drop at t ≡ ws → WholeGroups (suc l) ws → Turned S t at (suc l) fires (at + 1 + k) fires′
+    go : (ws : List ℕ) → drop at t ≡ ws → WholeGroups (suc l) ws → Turned S t at (suc l) fires (literalsAt at + k) fires′
     go [] e w = absurd w
     go (x ∷ ws) e w =
         let p = word-at t at x ws e in
         let ex : k ≡ x = ek ∙ p .word in
-        let d : drop (at + 1 + k) t ≡ drop x ws = sym (drop-drop k (at + 1) t) ∙ ap (drop k) (p .after) ∙ ap (λ (n : ℕ). drop n ws) ex in
+        let d : drop (literalsAt at + k) t ≡ drop x ws = sym (drop-drop k (literalsAt at) t) ∙ ap (drop k) (p .after) ∙ ap (λ (n : ℕ). drop n ws) ex in
         let f : fires′ ≡ (fires || wholly S (take x ws)) = ef ∙ ap₂ (λ (n : ℕ) (u : List ℕ). fires || wholly S (take n u)) ex (p .after) in
         record {
           inside = group-fits t at (suc l) k h lt ek;

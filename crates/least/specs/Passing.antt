@@ -10,7 +10,7 @@ use Rattle.paper.specs.Rules.{Rule, HeadsBelow, atom, positive, negative}
 use Rattle.paper.specs.Marking.{Marks, Unmarked, Least, mark, count}
 use Rattle.paper.proofs.Closure.{fires}
 use Rattle.bits.specs.Sets.{member, putIn}
-use Rattle.words.specs.Layout.{rulesOf, wordsOf, ruleAt, afterRecord}
+use Rattle.words.specs.Layout.{rulesOf, wordsOf, bodyAt, ruleAt, afterRecord}
 
 -- a literal that is in the set, or whose atom is marked, is not added
 abbrev pub skips : Marks → (ℕ → Bool) → ℕ → Bool
@@ -33,7 +33,7 @@ pub record Decided (A : Marks) (S : ℕ → Bool) (t : List ℕ) (at : ℕ) (add
   pub adds-is : adding ≡ adds A S (ruleAt t at)
   pub after : drop next t ≡ afterRecord t at
   pub inside : next ≤ length t
-  pub further : at + 2 ≤ next
+  pub further : bodyAt at ≤ next
 
 -- from place `at` on stand records with heads among 1,024 literals
 pub record Records (t : List ℕ) (at : ℕ) : Type 0 where

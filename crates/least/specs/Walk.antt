@@ -2,16 +2,10 @@
 use mathlib.Core.List.{List, [], _∷_}
 use mathlib.Core.Path.{_≡_}
 use mathlib.Core.Bool.{Bool, not, _&&_, _||_}
-use Prim.Native.Nat.{ℕ, zero, suc, _+_, _≤_}
+use Prim.Native.Nat.{ℕ, _≤_}
 use lib.ListN.{length, drop}
-use Rattle.words.specs.Layout.{takeGroups, dropGroups, ruleAt, afterRecord}
+use Rattle.words.specs.Layout.{takeGroups, dropGroups, bodyAt, ruleAt, afterRecord}
 use Rattle.paper.proofs.Closure.{someWholly, fires}
-
--- m whole groups stand at the front of the words
-unfoldable pub WholeGroups : ℕ → List ℕ → Type 0
-WholeGroups zero ws = Unit {0}
-WholeGroups (suc m) [] = ⊥
-WholeGroups (suc m) (k ∷ ws) = (k ≤ length ws) × WholeGroups m (drop k ws)
 
 -- the body of m groups from place `at` on was read
 pub record BodyRead (S : ℕ → Bool) (t : List ℕ) (at m : ℕ) (fired fires : Bool) (next : ℕ) : Type 0 where
@@ -26,4 +20,4 @@ pub record DecidedHead (S : ℕ → Bool) (t : List ℕ) (at known : ℕ) (skip 
   pub adds-is : adding ≡ (not skip && fires S (ruleAt t at))
   pub after : drop next t ≡ afterRecord t at
   pub inside : next ≤ length t
-  pub further : at + 2 ≤ next
+  pub further : bodyAt at ≤ next

@@ -5,9 +5,9 @@ ghost use lib.ListN.{length, getD, take, drop};
 ghost use Rattle.bits.specs.Sets.{member};
 ghost use Rattle.paper.proofs.Closure.{wholly, someWholly};
 ghost use lib.Dec.{eqb};
-ghost use Rattle.least.specs.Walk.{WholeGroups, BodyRead, DecidedHead};
+ghost use Rattle.least.specs.Walk.{BodyRead, DecidedHead};
 ghost use Rattle.least.specs.Passing.{skips, Decided, Records, Moved, Passed, ClosedOver, WithMarked, withPair};
-ghost use Rattle.words.specs.Layout.{rulesOf};
+ghost use Rattle.words.specs.Layout.{rulesOf, bodyAt, groupsIn, bodyFrom, WholeGroups};
 ghost use Rattle.paper.specs.Marking.{IsHeld, IsClean};
 
 // What a body says, and where the next record begins.
@@ -54,8 +54,8 @@ fn read_body(table: &[u16], set: &[u64], first: usize, m: usize, fired: bool) ->
     let mut fires = fired;
     while 0 < left {
         let k = words::word(table, at);
-        fires = fires_with(table, set, at + 1, k, fires);
-        at = at + 1 + k;
+        fires = fires_with(table, set, at + words::LITERALS, k, fires);
+        at = at + words::LITERALS + k;
         left -= 1;
     }
     Body { fires, next: at }
@@ -93,7 +93,7 @@ pub struct Decision {
 }
 
 fn decide(table: &[u16], set: &[u64], at: usize, head: usize, skip: bool) -> Decision
-    requires { ⌜ (at + 2 ≤ length (now table)) × WholeGroups (getD (now table) (at + 1) 0) (drop (at + 2) (now table)) ⌝ }
+    requires { ⌜ (bodyAt at ≤ length (now table)) × WholeGroups (groupsIn (now table) at) (bodyFrom (now table) at) ⌝ }
     ensures { λ r. ⌜ DecidedHead (member (now (set .entry))) (now (table .entry)) at head skip (r .adds) (r .head) (r .next) ⌝ }
 {
     let m = words::word(table, at + words::GROUPS);
@@ -108,7 +108,7 @@ fn decide(table: &[u16], set: &[u64], at: usize, head: usize, skip: bool) -> Dec
 }
 
 fn decide_at(table: &[u16], set: &[u64], marks: &[u64], at: usize) -> Decision
-    requires { ⌜ (at + 2 ≤ length (now table)) × WholeGroups (getD (now table) (at + 1) 0) (drop (at + 2) (now table)) ⌝ }
+    requires { ⌜ (bodyAt at ≤ length (now table)) × WholeGroups (groupsIn (now table) at) (bodyFrom (now table) at) ⌝ }
     ensures { λ r. ⌜ Decided (member (now (marks .entry))) (member (now (set .entry))) (now (table .entry)) at (r .adds) (r .head) (r .next) ⌝ }
 {
     let head = words::word(table, at);

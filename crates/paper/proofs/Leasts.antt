@@ -2,7 +2,7 @@
 use mathlib.Core.Bool.{Bool, true, false, not, cond}
 use mathlib.Core.List.{List, []}
 use mathlib.Core.Logic.{_⊎_, inl, inr, ⊎-elim}
-use mathlib.Core.Path.{_≡_, refl, subst}
+use mathlib.Core.Path.{_≡_, refl, subst, subst⁻¹}
 use Prim.Native.Nat.{ℕ, suc, _≤_, _<_, _*_, _+_, _/_}
 use native.Mathlib.Omega.{arith}
 use lib.Dec.{T, eqb, eqb→eq, eqb-refl}
@@ -34,6 +34,10 @@ unmarked-anti A B s a h = ⊎-elim (λ (t : T (A a)). absurd (lib.Dec.T-not (B a
 module _ {R : List Rule} where
   pub clean→held : (A : Marks) {l : ℕ} → Clean R A l → Held R A l
   clean→held A = least-mono (λ ρ m. m) (λ l h. absurd h) (λ l h. tt)
+
+  -- with no marks every held literal is clean
+  pub held→clean : (A : Marks) → ((a : ℕ) → A a ≡ false) → {l : ℕ} → Held R A l → Clean R A l
+  held→clean A none = least-mono (λ ρ m. m) (λ l h. subst T (none (atom l)) h) (λ l h. subst⁻¹ (λ (b : Bool). T (not b)) (none (atom l)) tt)
 
   -- held grows with the marks, clean shrinks
   pub held-mono : (A B : Marks) → A ⊆ B → {l : ℕ} → Held R A l → Held R B l

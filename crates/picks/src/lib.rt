@@ -130,6 +130,24 @@ pub fn pick_by_value(record: MarkRecord, table: &[u16], atom: u64) -> Picked
     mark_atom(n, marks, table, atom)
 }
 
+// A pick of an atom: it alters at most that atom's mark in the record it is lent.
+pub fn pick(record: &mut MarkRecord, table: &[u16], atom: u64) -> PickAnswer
+    ensures { λ r. ⌜ PickAllows (now («record» .entry)) (now (table .entry)) atom r (now («record» .exit)) ⌝ }
+{
+    let picked = pick_by_value(*record, table, atom);
+    *record = picked.record;
+    picked.answer
+}
+
+// A pick for a caller that has N and the marks as numbers: they are made a record, and the record is lent.
+pub fn pick_numbers(n: u64, marks: [u64; 8], table: &[u16], atom: u64) -> Picked
+    ensures { λ r. ⌜ PickAllows (record { n = n; marks = marks }) (now (table .entry)) atom (r .answer) (r .record) ⌝ }
+{
+    let mut record = MarkRecord { n, marks };
+    let answer = pick(&mut record, table, atom);
+    Picked { answer, record }
+}
+
 fn settled_fault(n: u64, marks: &[u64], table: &[u16]) -> Checked
     ensures { λ r. ⌜ r ≡ settledFault n (member (now (marks .entry))) (now (table .entry)) ⌝ }
 {
@@ -208,7 +226,8 @@ fn report_settled(n: u64, marks: [u64; 8], table: &[u16], values: &mut [u8]) -> 
     requires { ⌜ reportFault n (member marks) (now table) (length (now values)) ≡ Checked.Accepted ⌝ }
     ensures { λ r. ⌜ ReportAllows (record { n = n; marks = marks }) (now (table .entry)) (now (values .entry)) r (now (values .exit)) ⌝ }
 {
-    if marking::can_go_on(table, &marks, n as usize) {
+    let goes_on = marking::can_go_on(table, &marks, n as usize);
+    if goes_on {
         return ReportAnswer::Refused(Refusal {
             number: refusal::NOT_SETTLED,
             place: 0,

@@ -119,7 +119,7 @@ pub extern "C" fn probe_pick(n: &mut u64, marks: &mut [u64; 8], table: &[u16], a
     ensures { λ r. ⌜ PickPacked (record { n = now (n .entry); marks = now (marks .entry) }) (now (table .entry)) atom r (now (n .exit)) (now (marks .exit)) ⌝ }
 {
     let m = *marks;
-    let picked = picks::pick_by_value(MarkRecord { n: *n, marks: m }, table, atom);
+    let picked = picks::pick_numbers(*n, m, table, atom);
     let record = picked.record;
     let answer = picked.answer;
     let after = record.marks;

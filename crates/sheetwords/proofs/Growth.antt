@@ -11,7 +11,7 @@ use borrow.Author.Tests.{ltb-true, ltb-false}
 use Rattle.paper.specs.Rules.{Rule}
 use Rattle.bits.specs.Sets.{member, _with_}
 use Rattle.bits.proofs.Laws.{member-putIn, length-putIn}
-use Rattle.words.specs.Layout.{groupWords, groupsWords, recordWords, wordsOf}
+use Rattle.words.specs.Layout.{groupWords, groupsWords, recordWords, wordsOf, groupsAt, bodyAt}
 use Rattle.reader.specs.declared.Role.{Role}
 use Rattle.reader.specs.declared.Role.the-variants.{Head, First, Further}
 use Rattle.reader.specs.declared.SheetLiteral.{SheetLiteral}
@@ -27,7 +27,7 @@ abbrev pub RuleAt : Counts → List Rule → Type 0
 RuleAt k R = Some R × (k .rule ≡ length (wordsOf (butLast R)))
 
 abbrev pub GroupAt : Counts → List Rule → Type 0
-GroupAt k R = Some (lastGroups R) × (k .group ≡ length (wordsOf (butLast R)) + 2 + length (groupsWords (butLast (lastGroups R))))
+GroupAt k R = Some (lastGroups R) × (k .group ≡ bodyAt (length (wordsOf (butLast R))) + length (groupsWords (butLast (lastGroups R))))
 
 -- what a literal of a role stands on: a head on nothing, the first of a group on a rule, a further one on a group
 abbrev pub Standing : Role → Counts → List Rule → Type 0
@@ -45,7 +45,7 @@ changed-words f R h =
 
 -- a group more
 first-grows : (k : Counts) (R : List Rule) (c : ℕ) → RuleAt k R
-    → Grown R (withLiteral First c R) (k .rule + 1) (length (lastGroups R)) (1 ∷ c ∷ [])
+    → Grown R (withLiteral First c R) (groupsAt (k .rule)) (length (lastGroups R)) (1 ∷ c ∷ [])
 unfolding withLiteral
 first-grows k R c at =
     let B = wordsOf (butLast R) in
@@ -144,12 +144,12 @@ on-rule a Further k R c at end =
     (changed-some (onLast (λ β. β ++ (c ∷ []))) R (at .0 .0), changed-at (onLast (λ β. β ++ (c ∷ []))) R (at .0 .0) (k .rule) (at .0 .1))
 
 grouped : (f : List (List ℕ) → List (List ℕ)) (R : List Rule) (x : ℕ) → Some R → Some (f (lastGroups R))
-    → x ≡ length (wordsOf (butLast R)) + 2 + length (groupsWords (butLast (f (lastGroups R))))
+    → x ≡ bodyAt (length (wordsOf (butLast R))) + length (groupsWords (butLast (f (lastGroups R))))
     → Some (lastGroups (onLast (changeGroups f) R))
-    × (x ≡ length (wordsOf (butLast (onLast (changeGroups f) R))) + 2 + length (groupsWords (butLast (lastGroups (onLast (changeGroups f) R)))))
+    × (x ≡ bodyAt (length (wordsOf (butLast (onLast (changeGroups f) R)))) + length (groupsWords (butLast (lastGroups (onLast (changeGroups f) R)))))
 grouped f R x some here e = (
   subst Some (sym (changed-groups f R some)) here,
-  e ∙ ap₂ (λ (S : List Rule) (βs : List (List ℕ)). length (wordsOf S) + 2 + length (groupsWords (butLast βs))) (sym (changed-before f R some)) (sym (changed-groups f R some)),
+  e ∙ ap₂ (λ (S : List Rule) (βs : List (List ℕ)). bodyAt (length (wordsOf S)) + length (groupsWords (butLast βs))) (sym (changed-before f R some)) (sym (changed-groups f R some)),
 )
 
 pub on-group-first : (a : ℕ) (k : Counts) (R : List Rule) (c : ℕ) → Standing First k R → k .words ≡ length (wordsOf R)
@@ -169,7 +169,7 @@ on-group-further a k R c at =
     let grown = onLast-is (λ γ. γ ++ (c ∷ [])) [] βs (at .1 .0) in
     grouped (onLast (λ γ. γ ++ (c ∷ []))) R (k .group) (at .0 .0)
     (subst Some (sym grown) (some-snoc (butLast βs) (lastGroup R ++ (c ∷ []))))
-    (at .1 .1 ∙ ap (λ (γs : List (List ℕ)). length (wordsOf (butLast R)) + 2 + length (groupsWords γs)) (sym (ap butLast grown ∙ butLast-snoc (butLast βs) (lastGroup R ++ (c ∷ [])))))
+    (at .1 .1 ∙ ap (λ (γs : List (List ℕ)). bodyAt (length (wordsOf (butLast R))) + length (groupsWords γs)) (sym (ap butLast grown ∙ butLast-snoc (butLast βs) (lastGroup R ++ (c ∷ [])))))
 
 -- the heads of the rules
 swap : (a b x : Bool) → cond a true (cond b true x) ≡ cond b true (cond a true x)

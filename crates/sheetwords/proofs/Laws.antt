@@ -13,7 +13,7 @@ use Rattle.refusal.specs.declared.Refusal.{Refusal}
 use Rattle.bits.specs.Sets.{_with_}
 use Rattle.words.specs.declared.Checked.{Checked}
 use Rattle.words.specs.declared.Checked.the-variants.{Accepted, Refused}
-use Rattle.words.specs.Layout.{wordsOf, rulesOf, groupsWords}
+use Rattle.words.specs.Layout.{wordsOf, rulesOf, groupsWords, bodyAt}
 use Rattle.words.specs.Check.{noHeads, AcceptedTable}
 use Rattle.words.specs.Limits.{GroupWithin, BodyWithin, Within}
 use Rattle.words.proofs.Good.{Good, good-heads, good-distinct, good-bodies}
@@ -106,7 +106,7 @@ countsOf R = record {
   atoms = 0;
   words = length (wordsOf R);
   rule = length (wordsOf (butLast R));
-  group = length (wordsOf (butLast R)) + 2 + length (groupsWords (butLast (lastGroups R)));
+  group = bodyAt (length (wordsOf (butLast R))) + length (groupsWords (butLast (lastGroups R)));
 }
 
 by-rules : (role : Role) (k : Counts) (R : List Rule) → Standing role k R → Standing role (countsOf R) R

@@ -10,7 +10,7 @@ use Rattle.refusal.specs.declared.Refusal.{Refusal}
 use Rattle.bits.specs.Sets.{putIn, member}
 use Rattle.words.specs.declared.Checked.{Checked}
 use Rattle.words.specs.declared.Checked.the-variants.{Accepted, Refused as Faulty}
-use Rattle.words.specs.Layout.{wordsOf}
+use Rattle.words.specs.Layout.{wordsOf, groupsAt, groupsIn, bodyAt, literalsAt, afterOne}
 use Rattle.reader.specs.declared.Role.{Role}
 use Rattle.reader.specs.declared.Role.the-variants.{Head, First, Further}
 use Rattle.reader.specs.declared.SheetLiteral.{SheetLiteral}
@@ -47,7 +47,7 @@ namesWith a atoms = cond (ltb a atoms) atoms (atoms + 1)
 -- the word buffer with one literal more: m or k grows where it stands
 abbrev pub putWords : Role → ℕ → Counts → List ℕ → List ℕ
 putWords Head c k ws = set ws (k .words) c
-putWords First c k ws = set (set (set ws (k .rule + 1) (getD ws (k .rule + 1) 0 + 1)) (k .words) 1) (k .words + 1) c
+putWords First c k ws = set (set (set ws (groupsAt (k .rule)) (getD ws (groupsAt (k .rule)) 0 + 1)) (k .words) 1) (literalsAt (k .words)) c
 putWords Further c k ws = set (set ws (k .group) (getD ws (k .group) 0 + 1)) (k .words) c
 
 -- the name buffer with the name of number a
@@ -62,16 +62,16 @@ putHead Further c heads = heads
 
 -- the counts with one literal more
 abbrev pub counted : Role → ℕ → Counts → Counts
-counted Head a k = record { atoms = namesWith a (k .atoms); words = k .words + 2; rule = k .words; group = k .group }
-counted First a k = record { atoms = namesWith a (k .atoms); words = k .words + 2; rule = k .rule; group = k .words }
+counted Head a k = record { atoms = namesWith a (k .atoms); words = bodyAt (k .words); rule = k .words; group = k .group }
+counted First a k = record { atoms = namesWith a (k .atoms); words = afterOne (k .words); rule = k .rule; group = k .words }
 counted Further a k = record { atoms = namesWith a (k .atoms); words = k .words + 1; rule = k .rule; group = k .group }
 
 -- room for what has been counted
 pub record Room (k : Counts) (ws ns : List ℕ) : Type 0 where
   pub atoms : k .atoms ≤ 512
   pub words : k .words ≤ 8192
-  pub rule : k .rule + 2 ≤ 8192
-  pub group : k .group + 1 ≤ 8192
+  pub rule : bodyAt (k .rule) ≤ 8192
+  pub group : literalsAt (k .group) ≤ 8192
   pub word-buffer : 8192 ≤ length ws
   pub name-buffer : 512 ≤ length ns
 
@@ -84,7 +84,7 @@ codeIn s k names l = codeOf s (take (k .atoms) names) l
 
 -- how many groups or literals the body has with a literal, by the words in the buffer
 abbrev pub bodyIn : Role → Counts → List ℕ → ℕ
-bodyIn role k ws = inBody role (getD ws (k .rule + 1) 0) (getD ws (k .group) 0)
+bodyIn role k ws = inBody role (groupsIn ws (k .rule)) (getD ws (k .group) 0)
 
 -- the fault of a literal of number a and code c at p, by the buffers
 abbrev pub faultBy : ℕ → ℕ → Counts → List ℕ → List ℕ → ℕ → SheetLiteral → Checked

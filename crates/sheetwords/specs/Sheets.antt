@@ -10,6 +10,7 @@ use Rattle.refusal.specs.Numbers.{sheet-too-long, buffer-too-small, too-many-na
 use Rattle.words.specs.declared.Checked.{Checked}
 use Rattle.words.specs.declared.Checked.the-variants.{Accepted, Refused}
 use Rattle.words.specs.Check.{asking}
+use Rattle.words.specs.Layout.{bodyAt, afterOne}
 use Rattle.reader.specs.declared.Role.{Role}
 use Rattle.reader.specs.declared.Role.the-variants.{Head, First, Further}
 use Rattle.reader.specs.declared.SheetLiteral.{SheetLiteral}
@@ -59,8 +60,8 @@ withLiteral Further c R = onLast (changeGroups (onLast (λ β. β ++ (c ∷ []))
 
 -- words counted: 2 for a head, 2 for the first literal of a group, 1 for a further one
 abbrev pub wordsFor : Role → ℕ
-wordsFor Head = 2
-wordsFor First = 2
+wordsFor Head = bodyAt 0
+wordsFor First = afterOne 0
 wordsFor Further = 1
 
 -- an atom's number: that of an equal earlier name, or the next

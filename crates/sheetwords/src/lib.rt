@@ -8,6 +8,7 @@ ghost use Prim.Native.Nat.{ℕ, _+_, _<_, _≤_};
 ghost use mathlib.Core.List.{[]};
 ghost use lib.ListN.{length, getD, replicate};
 ghost use Rattle.bits.specs.Sets.{member};
+ghost use Rattle.words.specs.Layout.{groupsAt, groupsIn, bodyAt, literalsAt};
 ghost use Rattle.refusal.specs.Numbers.{refusal};
 ghost use Rattle.names.specs.Names.{entryFor};
 ghost use Rattle.sheetwords.specs.Sheets.{codeFor, wordsFor, repeats, faultWith, sheetFrom, nothing, sheetOutcome};
@@ -94,12 +95,12 @@ fn is_repeated(role: Role, heads: &[u64], code: usize) -> bool
 }
 
 fn body_with(role: Role, words: &[u16], counts: Counts) -> usize
-    requires { ⌜ counts .rule + 2 ≤ 8192 ⌝ }
+    requires { ⌜ bodyAt (counts .rule) ≤ 8192 ⌝ }
     ensures { λ r. ⌜ r ≡ bodyIn role counts (now (words .entry)) ⌝ }
 {
     match role {
         Role::Head => 0,
-        Role::First => words::word(words, counts.rule + 1) + 1,
+        Role::First => words::word(words, counts.rule + words::GROUPS) + 1,
         Role::Further => words::word(words, counts.group) + 1,
     }
 }
@@ -109,8 +110,8 @@ fn words_for(role: Role) -> usize
     ensures { λ r. ⌜ r ≤ 2 ⌝ }
 {
     match role {
-        Role::Head => 2,
-        Role::First => 2,
+        Role::Head => words::BODY,
+        Role::First => words::ONE_LITERAL,
         Role::Further => 1,
     }
 }
@@ -127,7 +128,7 @@ fn fault_of(
 ) -> Checked
     requires { ⌜ counts .atoms ≤ 512 ⌝ }
     requires { ⌜ counts .words ≤ 8192 ⌝ }
-    requires { ⌜ counts .rule + 2 ≤ 8192 ⌝ }
+    requires { ⌜ bodyAt (counts .rule) ≤ 8192 ⌝ }
     ensures { λ r. ⌜ r ≡ faultBy atom code counts (now (words .entry)) (now (heads .entry)) place l ⌝ }
 {
     let role = l.role;
@@ -148,17 +149,17 @@ fn put_head(words: &mut [u16], counts: Counts, code: usize)
 }
 
 fn put_first(words: &mut [u16], counts: Counts, code: usize)
-    requires { ⌜ counts .words + 1 < length (now words) ⌝ }
-    requires { ⌜ counts .rule + 1 < length (now words) ⌝ }
-    requires { ⌜ getD (now words) (counts .rule + 1) 0 < 65535 ⌝ }
+    requires { ⌜ literalsAt (counts .words) < length (now words) ⌝ }
+    requires { ⌜ groupsAt (counts .rule) < length (now words) ⌝ }
+    requires { ⌜ groupsIn (now words) (counts .rule) < 65535 ⌝ }
     requires { ⌜ code < 65536 ⌝ }
     ensures { λ _. ⌜ now (words .exit) ≡ putWords Role.First code counts (now (words .entry)) ⌝ }
 {
-    let m = counts.rule + 1;
+    let m = counts.rule + words::GROUPS;
     let w = counts.words;
     words[m] = words[m] + 1;
     words[w] = 1;
-    words[w + 1] = code as u16;
+    words[w + words::LITERALS] = code as u16;
 }
 
 fn put_further(words: &mut [u16], counts: Counts, code: usize)
@@ -176,7 +177,7 @@ fn put_further(words: &mut [u16], counts: Counts, code: usize)
 
 fn put_words(role: Role, words: &mut [u16], counts: Counts, code: usize)
     requires { ⌜ counts .words + wordsFor role ≤ length (now words) ⌝ }
-    requires { ⌜ counts .rule + 1 < length (now words) ⌝ }
+    requires { ⌜ groupsAt (counts .rule) < length (now words) ⌝ }
     requires { ⌜ counts .group < length (now words) ⌝ }
     requires { ⌜ bodyIn role counts (now words) ≤ 64 ⌝ }
     requires { ⌜ code < 65536 ⌝ }
@@ -222,13 +223,13 @@ fn count_on(role: Role, atom: usize, counts: Counts) -> Counts
     match role {
         Role::Head => Counts {
             atoms,
-            words: words + 2,
+            words: words + words::BODY,
             rule: words,
             group,
         },
         Role::First => Counts {
             atoms,
-            words: words + 2,
+            words: words + words::ONE_LITERAL,
             rule,
             group: words,
         },

@@ -4,10 +4,10 @@ use mathlib.Core.List.{List, [], _∷_, _++_, append-assoc}
 use Prim.Native.Nat.{ℕ, zero, suc, _≤_}
 use native.Mathlib.Nat.{not-suc-le-zero, le-refl}
 use native.Mathlib.Omega.{arith}
-use lib.ListN.{length, drop, length-drop}
+use lib.ListN.{length, drop, length-drop, length-append}
 use lib.Seq.{take-append-seam, drop-append-seam}
 use Rattle.paper.specs.Rules.{Rule}
-use Rattle.words.specs.Layout.{groupsWords, wordsOf, takeGroups, dropGroups, rulesWithin, rulesOf}
+use Rattle.words.specs.Layout.{groupsWords, wordsOf, WholeGroups, takeGroups, dropGroups, rulesWithin, rulesOf}
 
 pub takeGroups-groupsWords : (βs : List (List ℕ)) (rest : List ℕ) → takeGroups (length βs) (groupsWords βs ++ rest) ≡ βs
 unfolding takeGroups groupsWords
@@ -21,6 +21,23 @@ unfolding dropGroups groupsWords
 dropGroups-groupsWords [] rest = refl
 dropGroups-groupsWords (β ∷ βs) rest =
     rw (append-assoc β (groupsWords βs) rest, drop-append-seam β (groupsWords βs ++ rest)) (dropGroups-groupsWords βs rest)
+
+-- as many groups are taken as there are
+pub length-takeGroups : (m : ℕ) (ws : List ℕ) → WholeGroups m ws → length (takeGroups m ws) ≡ m
+unfolding WholeGroups takeGroups
+length-takeGroups zero ws h = refl
+length-takeGroups (suc m) [] h = absurd h
+length-takeGroups (suc m) (k ∷ ws) h = ap suc (length-takeGroups m (drop k ws) (h .1))
+
+-- the words of groups are whole groups
+pub whole-groups : (βs : List (List ℕ)) (rest : List ℕ) → WholeGroups (length βs) (groupsWords βs ++ rest)
+unfolding WholeGroups groupsWords
+whole-groups [] rest = tt
+whole-groups (β ∷ βs) rest =
+    let e = append-assoc β (groupsWords βs) rest in (
+      (let l = length-append β (groupsWords βs ++ rest) in rw e (omega arith)),
+      rw (e, drop-append-seam β (groupsWords βs ++ rest)) (whole-groups βs rest),
+    )
 
 length-dropGroups : (m : ℕ) (t : List ℕ) → length (dropGroups m t) ≤ length t
 unfolding dropGroups

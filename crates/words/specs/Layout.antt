@@ -1,11 +1,12 @@
--- Document 01, "Word table": how records lie in the words. Two crates above still say parts of it: least by place (at + 1, at + 2), and
--- sheetwords where it fills a buffer (putWords, counted).
--- W2, a line number after the head: recordWords, rulesWithin, ruleAt and afterRecord here, GROUPS and BODY in src/; a Due after Head in Check.antt
--- and src/; record-at in proofs/Places.antt; wordsOf (rulesOf t) ≡ t, unless rules carry the number; and the two crates above.
+-- Document 01, "Word table": how records lie in the words. Nothing else says it: other crates name the places below, and code the constants
+-- GROUPS, BODY, LITERALS and ONE_LITERAL of src/, which are these.
+-- W2, a line number after the head: recordWords, groupsAt, bodyAt and rulesWithin here, GROUPS and BODY in src/; a Due after Head in Check.antt
+-- and src/; record-at in proofs/Places.antt; wordsOf (rulesOf t) ≡ t, unless rules carry the number; where sheetwords puts a head, the number is put too.
 -- W10, IN words: literalFault in Check.antt where they are allowed; nothing here, since an IN word is one word of a group.
--- W13, brackets that count as one in k: groupWords, takeGroups and dropGroups; a Due inside a bracket; group-at in proofs/Places.antt; and the two crates above.
+-- W13, brackets that count as one in k: groupWords, WholeGroups, takeGroups and dropGroups; a Due inside a bracket; group-at in proofs/Places.antt;
+-- where least walks a group and sheetwords puts a literal.
 use mathlib.Core.List.{List, [], _∷_, _++_}
-use Prim.Native.Nat.{ℕ, zero, suc, _+_}
+use Prim.Native.Nat.{ℕ, zero, suc, _+_, _≤_}
 use lib.ListN.{length, getD, take, drop}
 use Rattle.paper.specs.Rules.{Rule}
 
@@ -26,6 +27,26 @@ recordWords ρ = ρ .head ∷ length (ρ .groups) ∷ groupsWords (ρ .groups)
 unfoldable pub wordsOf : List Rule → List ℕ
 wordsOf [] = []
 wordsOf (ρ ∷ R) = recordWords ρ ++ wordsOf R
+
+-- of the record at place i: the place of m, and of its first group
+abbrev pub groupsAt : ℕ → ℕ
+groupsAt i = i + 1
+
+abbrev pub bodyAt : ℕ → ℕ
+bodyAt i = i + 2
+
+-- of the group at place i: the place of its first literal, and the place after that one
+abbrev pub literalsAt : ℕ → ℕ
+literalsAt i = i + 1
+
+abbrev pub afterOne : ℕ → ℕ
+afterOne i = i + 2
+
+-- m whole groups stand at the front of the words
+unfoldable pub WholeGroups : ℕ → List ℕ → Type 0
+WholeGroups zero t = Unit {0}
+WholeGroups (suc m) [] = ⊥
+WholeGroups (suc m) (k ∷ t) = (k ≤ length t) × WholeGroups m (drop k t)
 
 -- m groups at the front of the words
 unfoldable pub takeGroups : ℕ → List ℕ → List (List ℕ)
@@ -50,10 +71,17 @@ rulesWithin (suc n) (h ∷ m ∷ t) = record { head = h; groups = takeGroups m t
 unfoldable pub rulesOf : List ℕ → List Rule
 rulesOf t = rulesWithin (length t) t
 
+-- of the record at place i: its number of groups, and the words from its first group on
+abbrev pub groupsIn : List ℕ → ℕ → ℕ
+groupsIn t i = getD t (groupsAt i) 0
+
+abbrev pub bodyFrom : List ℕ → ℕ → List ℕ
+bodyFrom t i = drop (bodyAt i) t
+
 -- the rule of the record at place i
 abbrev pub ruleAt : List ℕ → ℕ → Rule
-ruleAt t i = record { head = getD t i 0; groups = takeGroups (getD t (i + 1) 0) (drop (i + 2) t) }
+ruleAt t i = record { head = getD t i 0; groups = takeGroups (groupsIn t i) (bodyFrom t i) }
 
 -- the words after the record at place i
 abbrev pub afterRecord : List ℕ → ℕ → List ℕ
-afterRecord t i = dropGroups (getD t (i + 1) 0) (drop (i + 2) t)
+afterRecord t i = dropGroups (groupsIn t i) (bodyFrom t i)

@@ -21,10 +21,15 @@ pub enum Due {
     Literal(usize, usize),
 }
 
-// A record: its head, then the number of its groups, then its groups.
+// A record: its head, then the number of its groups, then its groups (groupsAt, bodyAt in specs/Layout.antt).
 pub const GROUPS: usize = 1;
 
 pub const BODY: usize = 2;
+
+// A group: its length, then its literals (literalsAt); the words of a group of one literal (afterOne).
+pub const LITERALS: usize = 1;
+
+pub const ONE_LITERAL: usize = 2;
 
 // The word at `i`, 0 past the end.
 pub fn word(table: &[u16], i: usize) -> usize

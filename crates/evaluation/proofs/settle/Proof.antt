@@ -7,12 +7,14 @@ use Rattle.paper.specs.Rules.{HeadsBelow}
 use Prim.Native.Nat.{_≤_}
 use Rattle.evaluation.specs.Rounds.{Settling, Round}
 use Rattle.evaluation.proofs.Rounds.{left, left-falls}
-use Rattle.evaluation.proofs.Evaluated.{settling-starts}
+use Rattle.evaluation.proofs.Evaluated.{first-round}
 use Rattle.evaluation.proofs.settle.Statement.{statement}
 use Rattle.evaluation.proofs.settle.Tie as tie
 use Rattle.evaluation.proofs.settle.Reads as reads
 use Rattle.evaluation.proofs.settle.Lts as lts
+use Rattle.evaluation.proofs.mark_all.Reads as mark-all-reads
 use Rattle.evaluation.proofs.round.Reads as round-reads
+use Rattle.least.proofs.clean.Reads as clean-reads
 
 abbrev Inv-loop : tie.InvT-loop
 Inv-loop table n marks₀ held₀ again₀ marks held again =
@@ -22,9 +24,29 @@ abbrev μ-loop : tie.MeasureT-loop
 μ-loop table n marks₀ held₀ again₀ marks held again =
     left marks again
 
+slice-aggregate-clean : tie.Need-slice-aggregate-clean Inv-loop μ-loop
+slice-aggregate-clean c = search needs
+
+clean-requires : tie.Need-clean-requires Inv-loop μ-loop
+clean-requires c κs =
+    c .before .before .pre .1
+
+slice-aggregate-mark-all : tie.Need-slice-aggregate-mark-all Inv-loop μ-loop
+slice-aggregate-mark-all c = search needs
+
+slice-aggregate-mark-all-2 : tie.Need-slice-aggregate-mark-all-2 Inv-loop μ-loop
+slice-aggregate-mark-all-2 c = search needs
+
+slice-aggregate-mark-all-3 : tie.Need-slice-aggregate-mark-all-3 Inv-loop μ-loop
+slice-aggregate-mark-all-3 c = search needs
+
+mark-all-requires : tie.Need-mark-all-requires Inv-loop μ-loop
+mark-all-requires c κs =
+    (c .before .before .before .before .before .before .pre .0, search needs)
+
 loop-holds : tie.Need-loop-holds Inv-loop μ-loop
 loop-holds c =
-    settling-starts _
+    first-round (rulesOf (c .before .before .before .before .before .before .before .before .args .table .now)) (c .before .before .before .before .before .before .before .before .args .n) (c .before .before .before .before .before .before .before .before .pre .2) (c .before .before .before .before .before .clean .result) _ (c .before .mark-all .result) (search needs) (c .before .before .before .before .before .clean .ensures) (c .before .mark-all .ensures)
 
 slice-aggregate-round : tie.Need-slice-aggregate-round Inv-loop μ-loop
 slice-aggregate-round c =
@@ -36,7 +58,7 @@ slice-aggregate-round-2 c =
 
 round-requires : tie.Need-round-requires Inv-loop μ-loop
 round-requires c κs =
-    (c .before .before .before .before .before .pre .0, c .before .before .before .before .before .pre .1, c .before .before .before .before .before .pre .2, c .before .before .before .loop .inv .begun)
+    (c .before .before .before .before .before .before .before .before .before .before .before .before .pre .0, c .before .before .before .before .before .before .before .before .before .before .before .before .pre .1, c .before .before .before .before .before .before .before .before .before .before .before .before .pre .2, c .before .before .before .loop .inv .begun)
 
 loop-less : tie.Need-loop-less Inv-loop μ-loop
 loop-less c =
@@ -48,7 +70,7 @@ loop-again c =
 
 returns : tie.Need-returns Inv-loop μ-loop
 returns c =
-    subst (Settling (rulesOf (c .before .before .before .args .table .now)) (c .before .loop .marks) (c .before .loop .held)) (c .loop-test .left) (c .before .loop .inv)
+    subst (Settling (rulesOf (c .before .before .before .before .before .before .before .before .before .before .args .table .now)) (c .before .loop .marks) (c .before .loop .held)) (c .loop-test .left) (c .before .loop .inv)
 
 pub settle-spec : {M : Type 1} → statement M
 settle-spec =
@@ -56,6 +78,12 @@ settle-spec =
     (tie.spec
     Inv-loop
     μ-loop
+    slice-aggregate-clean
+    clean-requires
+    slice-aggregate-mark-all
+    slice-aggregate-mark-all-2
+    slice-aggregate-mark-all-3
+    mark-all-requires
     loop-holds
     slice-aggregate-round
     slice-aggregate-round-2

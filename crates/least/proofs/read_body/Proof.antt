@@ -5,9 +5,9 @@ use mathlib.Core.Path.{_≡_, refl, sym, _∙_}
 use mathlib.Core.Bool.{_||_}
 use lib.ListN.{length, take, drop}
 use Rattle.bits.specs.Sets.{member}
-use Rattle.words.specs.Layout.{takeGroups, dropGroups}
+use Rattle.words.specs.Layout.{WholeGroups, takeGroups, dropGroups}
 use Rattle.paper.proofs.Closure.{wholly, someWholly}
-use Rattle.least.specs.Walk.{WholeGroups, BodyRead}
+use Rattle.least.specs.Walk.{BodyRead}
 use Rattle.least.proofs.Walk.{Turned, group-fits, body-goes-on, body-ends}
 use Rattle.least.proofs.read_body.Statement.{statement}
 use Rattle.least.proofs.read_body.Tie as tie
