@@ -1,3 +1,4 @@
+ghost use mathlib.Core.Path.{_≡_};
 ghost use Rattle.host.specs.Evaluation.{HostEvaluation};
 ghost use Rattle.hostsheet.specs.SheetBytes.{HostSheet};
 
@@ -20,4 +21,12 @@ pub extern "C" fn simmerknot_sheet(
     ensures { λ a. ⌜ HostSheet (now (sheet .entry)) (now (words .entry)) (now (names .entry)) (now (text .entry)) a (now (words .exit)) (now (names .exit)) (now (text .exit)) ⌝ }
 {
     hostsheet::sheet_bytes(sheet, words, names, text)
+}
+
+// SIMMERKNOT_VERSION of include/simmerknot.h: 1,000,000 × major + 1,000 × minor + patch.
+#[no_mangle]
+pub extern "C" fn simmerknot_version() -> u64
+    ensures { λ v. ⌜ v ≡ 1000 ⌝ }
+{
+    1000
 }

@@ -1,7 +1,8 @@
-//! Evaluation's speed beside the yardsticks, plain rereading by the same method, and counters; then reading's (`reading`).
+//! Evaluation's speed beside the second implementation and the yardsticks, plain rereading by the same method, and counters; then
+//! reading's (`reading`).
 //!
 //! From tests/, after `rt staticlib probe` and `rt staticlib simmerknot`: `cargo run --release -p bench`. Both sides are
-//! in this binary. The three take turns, one evaluation each, for 2 seconds a table or 401 turns, and 11 turns at least; the
+//! in this binary. The four take turns, one evaluation each, for 2 seconds a table or 401 turns, and 11 turns at least; the
 //! value room is written anew by each and not cleared between. Every turn's values are compared. Times are medians in
 //! microseconds, ratios those of the medians.
 
@@ -30,31 +31,36 @@ fn counters(n: u64, words: &[u16], _bytes: &[u8], values: &mut [u8]) {
     yardstick::counters(n, words, values).expect("an accepted table");
 }
 
+fn reference(n: u64, words: &[u16], _bytes: &[u8], values: &mut [u8]) {
+    second::model::evaluate(n, words, values).expect("an accepted table");
+}
+
 type Evaluator = fn(u64, &[u16], &[u8], &mut [u8]);
 
-const EVALUATORS: [Evaluator; 3] = [engine, plain, counters];
+const EVALUATORS: [Evaluator; 4] = [engine, plain, counters, reference];
 
-/// The medians of the three, in microseconds, and how many turns they took.
-fn medians(n: u64, words: &[u16], bytes: &[u8]) -> ([f64; 3], usize) {
-    let mut rooms = [(); 3].map(|()| vec![0; n as usize]);
+/// The medians of the four, in microseconds, and how many turns they took.
+fn medians(n: u64, words: &[u16], bytes: &[u8]) -> ([f64; 4], usize) {
+    let mut rooms = [(); 4].map(|()| vec![0; n as usize]);
     turns::medians(|| {
         let times = from_fn(|i| timed(|| EVALUATORS[i](n, black_box(words), black_box(bytes), black_box(&mut rooms[i]))));
-        assert!(rooms[0] == rooms[1] && rooms[1] == rooms[2], "the values differ");
+        assert!(rooms.iter().all(|room| *room == rooms[0]), "the values differ");
         times
     })
 }
 
 fn main() {
-    println!("| table | words | turns | engine | plain | counters | engine / plain | engine / counters |");
-    println!("|---|---:|---:|---:|---:|---:|---:|---:|");
+    println!("| table | words | turns | engine | plain | counters | second | engine / second | engine / plain | engine / counters |");
+    println!("|---|---:|---:|---:|---:|---:|---:|---:|---:|---:|");
     for measured in MEASURED {
         let (n, words) = (measured.table)();
         let bytes = table_bytes(&words);
-        let ([engine, plain, counters], turns) = medians(n, &words, &bytes);
+        let ([engine, plain, counters, reference], turns) = medians(n, &words, &bytes);
         println!(
-            "| {} | {} | {turns} | {engine:.1} | {plain:.1} | {counters:.1} | {:.2} | {:.1} |",
+            "| {} | {} | {turns} | {engine:.1} | {plain:.1} | {counters:.1} | {reference:.1} | {:.2} | {:.2} | {:.1} |",
             measured.name,
             words.len(),
+            engine / reference,
             engine / plain,
             engine / counters
         );

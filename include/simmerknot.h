@@ -1,0 +1,208 @@
+/* simmerknot.h: values of ground 4QL rules, for a host in C or C++. This header is the authority on how a host uses the library.
+ *
+ * A host that reads a sheet and prints its value sheet:
+ *
+ *     #include <simmerknot.h>
+ *     #include <stdio.h>
+ *
+ *     static uint8_t words[SIMMERKNOT_WORD_BUFFER_BYTES];
+ *     static uint8_t names[SIMMERKNOT_NAME_BUFFER_BYTES];
+ *     static uint8_t text[SIMMERKNOT_VALUE_SHEET_BYTES];
+ *
+ *     int main(void) {
+ *         static const char sheet[] = "arrived\tlogged\tmailed\nlogged\n-arrived\tgap\ngap\n";
+ *         uint64_t answer = simmerknot_sheet((const uint8_t *)sheet, sizeof sheet - 1, words, sizeof words,
+ *                                            names, sizeof names, text, sizeof text);
+ *         if (simmerknot_refused(answer)) {
+ *             printf("%s, at %lu\n", simmerknot_refusal_text(simmerknot_number(answer)),
+ *                    (unsigned long)simmerknot_place(answer));
+ *             return 1;
+ *         }
+ *         fwrite(text, 1, (size_t)answer, stdout);
+ *         return 0;
+ *     }
+ *
+ * It prints arrived i, logged t and gap t, each name and letter parted by a tab: two sources contradict each other on the
+ * first. Build it with cc host.c $(pkg-config --cflags --libs simmerknot).
+ *
+ * What holds for every call:
+ * - It takes any bytes and any lengths, ends, and answers by one number; simmerknot_refused tells which kind it is.
+ * - A pointer and the length after it name one lent buffer. Where the length is 0 any pointer will do, NULL too.
+ * - No buffer that is written may overlap another lent buffer.
+ * - Nothing outside the lent buffers is read or written, but less than 20 KiB of stack (measured, tests/stack.c). No memory is kept,
+ *   taken or given back, so calls from several threads do not meet unless they lend the same buffer.
+ */
+#ifndef SIMMERKNOT_H
+#define SIMMERKNOT_H
+
+#include <stddef.h>
+#include <stdint.h>
+
+#ifdef __cplusplus
+extern "C" {
+#endif
+
+/* Version. */
+
+#define SIMMERKNOT_VERSION_MAJOR 0
+#define SIMMERKNOT_VERSION_MINOR 1
+#define SIMMERKNOT_VERSION_PATCH 0
+#define SIMMERKNOT_VERSION_TEXT "0.1.0"
+
+/* The version as one number, to compare with simmerknot_version(). */
+#define SIMMERKNOT_VERSION (1000000 * SIMMERKNOT_VERSION_MAJOR + 1000 * SIMMERKNOT_VERSION_MINOR + SIMMERKNOT_VERSION_PATCH)
+
+/* Limits. */
+
+#define SIMMERKNOT_MOST_ATOMS 512
+#define SIMMERKNOT_MOST_WORDS 8192
+#define SIMMERKNOT_MOST_GROUPS 64   /* of a rule */
+#define SIMMERKNOT_MOST_LITERALS 64 /* of a group */
+#define SIMMERKNOT_MOST_SHEET_BYTES 65536
+#define SIMMERKNOT_MOST_NAME_BYTES 24
+
+/* The least word buffer and name buffer that simmerknot_sheet takes: a word is two bytes, a name entry four. */
+#define SIMMERKNOT_WORD_BUFFER_BYTES (2 * SIMMERKNOT_MOST_WORDS)
+#define SIMMERKNOT_NAME_BUFFER_BYTES (4 * SIMMERKNOT_MOST_ATOMS)
+
+/* A text room that every value sheet fits: per atom a name, tab, letter and byte 10. */
+#define SIMMERKNOT_VALUE_SHEET_BYTES (SIMMERKNOT_MOST_ATOMS * (SIMMERKNOT_MOST_NAME_BYTES + 3))
+
+/* Calls. */
+
+/* Evaluates a table of rules over the atoms 0 to n - 1.
+ *
+ * Read: `table`, 16-bit words of two bytes each, low byte first; records back to back: head code; number of groups, 0 to 64 (0 is
+ *   a fact); per group its length, 1 to 64, and its literal codes. A literal code is 2 x atom, plus 1 for the negation. A head
+ *   has one record at most.
+ * Answered: 0 if evaluated, else a refusal: 1, 2, 3, then the first faulty word by 4, 5, 6 or 7, then 19.
+ * Written: if evaluated, the first n bytes of `values`, the value of each atom as a simmerknot_value.
+ * Untouched: `table`; the bytes of `values` past n; all of `values` on a refusal. */
+uint64_t simmerknot_evaluate(uint64_t n, const uint8_t *table, size_t table_len, uint8_t *values, size_t values_len);
+
+/* Reads a rule sheet (its layout: simmer(1), docs/SHEETS.md) and writes its value sheet.
+ *
+ * Read: `sheet`.
+ * Answered: the value sheet's length, else a refusal: 8, 9, then the first literal with a fault by 10, 11, 12, 7, 13 or 14, then
+ *   19, last 15.
+ * Written: every whole entry of `words` and `names`. If accepted, `words` begins with the sheet's rules as a table, one record to a
+ *   line, and `names` with one entry for each atom, in atom order: 32 x the place of the name's first appearance + its length,
+ *   four bytes, low byte first. All entries after these are zero; on a refusal all are, also where the buffer was too small.
+ *   If accepted, `text` begins with the value sheet: for each atom that heads a rule, in atom order, its name, tab, one letter
+ *   f, u, i or t, byte 10.
+ * Untouched: `sheet`; bytes after the last whole word and after the last whole name entry; the bytes of `text` past the value
+ *   sheet; all of `text` on a refusal. */
+uint64_t simmerknot_sheet(const uint8_t *sheet, size_t sheet_len, uint8_t *words, size_t words_len, uint8_t *names, size_t names_len,
+                          uint8_t *text, size_t text_len);
+
+/* Answers the SIMMERKNOT_VERSION that the library was built as. Nothing is read or written. */
+uint64_t simmerknot_version(void);
+
+/* Answers, taken apart. */
+
+/* 1 if the answer is a refusal, else 0. */
+static inline int simmerknot_refused(uint64_t answer) { return (answer >> 32) != 0; }
+
+/* The refusal's number, a simmerknot_refusal; 0 if the answer is none. */
+static inline uint32_t simmerknot_number(uint64_t answer) { return (uint32_t)(answer >> 32); }
+
+/* The refusal's place: a word of the table, a byte of the sheet, the bytes needed (15), or 0. */
+static inline uint32_t simmerknot_place(uint64_t answer) { return (uint32_t)(answer & 0xffffffffu); }
+
+/* The numbers of refusal: number, name, text. The two calls give 1 to 15 and 19; the others belong to marking step by step. */
+#define SIMMERKNOT_REFUSALS(X) \
+    X(1, TOO_MANY_ATOMS, "N is above 512") \
+    X(2, TABLE_TOO_LONG, "the table has more than 8,192 words") \
+    X(3, VALUE_ROOM_TOO_SMALL, "the value room has fewer than N bytes") \
+    X(4, CUT_SHORT, "a record is cut short") \
+    X(5, NOT_A_LITERAL, "a literal code is not below 2N") \
+    X(6, WRONG_LENGTH, "a rule has more than 64 groups, or a group has no literal or more than 64") \
+    X(7, SECOND_RULE, "a second rule for one head") \
+    X(8, SHEET_TOO_LONG, "the sheet has more than 65,536 bytes") \
+    X(9, BUFFER_TOO_SMALL, "the word buffer has fewer than 8,192 words or the name buffer fewer than 512 entries") \
+    X(10, WRONG_BYTE, "a byte that cannot stand there, or the sheet ended inside a line") \
+    X(11, NAME_TOO_LONG, "a name has more than 24 bytes") \
+    X(12, TOO_MANY_NAMES, "a 513th name") \
+    X(13, TOO_MANY_IN_BODY, "a 65th group in a rule, or a 65th literal in a group") \
+    X(14, TOO_MANY_WORDS, "the rules would fill more than 8,192 words") \
+    X(15, TEXT_ROOM_TOO_SMALL, "the value sheet does not fit the text room") \
+    X(16, NO_SUCH_ATOM, "the picked atom is not below N") \
+    X(17, MARK_PAST_ATOMS, "the record has a mark at N or above") \
+    X(18, NOT_SETTLED, "a report before the marking is settled") \
+    X(19, NEVER_SETTLED, "evaluation has made N marks and is not settled") \
+    X(20, NOT_A_TRUTH_CODE, "a truth code is above 3")
+
+/* SIMMERKNOT_TOO_MANY_ATOMS = 1 and so on. */
+typedef enum simmerknot_refusal {
+#define SIMMERKNOT_X(number, name, text) SIMMERKNOT_##name = number,
+    SIMMERKNOT_REFUSALS(SIMMERKNOT_X)
+#undef SIMMERKNOT_X
+    SIMMERKNOT_LAST_REFUSAL = SIMMERKNOT_NOT_A_TRUTH_CODE
+} simmerknot_refusal;
+
+/* The name of a number, as "SECOND_RULE"; "" for a number that is not in the list. */
+static inline const char *simmerknot_refusal_name(uint32_t number) {
+    switch (number) {
+#define SIMMERKNOT_X(number, name, text) case number: return #name;
+        SIMMERKNOT_REFUSALS(SIMMERKNOT_X)
+#undef SIMMERKNOT_X
+    default: return "";
+    }
+}
+
+/* What a number says, in one line of English; "" for a number that is not in the list. */
+static inline const char *simmerknot_refusal_text(uint32_t number) {
+    switch (number) {
+#define SIMMERKNOT_X(number, name, text) case number: return text;
+        SIMMERKNOT_REFUSALS(SIMMERKNOT_X)
+#undef SIMMERKNOT_X
+    default: return "";
+    }
+}
+
+/* Values, in truth order, as simmerknot_evaluate writes them. */
+typedef enum simmerknot_value {
+    SIMMERKNOT_F = 0, /* false */
+    SIMMERKNOT_U = 1, /* unknown: nobody spoke */
+    SIMMERKNOT_I = 2, /* inconsistent: sources contradict each other */
+    SIMMERKNOT_T = 3, /* true */
+    SIMMERKNOT_NO_VALUE = 4
+} simmerknot_value;
+
+/* The value that a byte of `values` stands for; SIMMERKNOT_NO_VALUE for a byte above 3. */
+static inline simmerknot_value simmerknot_value_of_code(uint8_t code) {
+    switch (code) {
+    case 0: return SIMMERKNOT_F;
+    case 1: return SIMMERKNOT_U;
+    case 2: return SIMMERKNOT_I;
+    case 3: return SIMMERKNOT_T;
+    default: return SIMMERKNOT_NO_VALUE;
+    }
+}
+
+/* The value that a letter of a value sheet stands for; SIMMERKNOT_NO_VALUE for any other byte. */
+static inline simmerknot_value simmerknot_value_of_letter(uint8_t letter) {
+    switch (letter) {
+    case 0x66: return SIMMERKNOT_F; /* f */
+    case 0x75: return SIMMERKNOT_U; /* u */
+    case 0x69: return SIMMERKNOT_I; /* i */
+    case 0x74: return SIMMERKNOT_T; /* t */
+    default: return SIMMERKNOT_NO_VALUE;
+    }
+}
+
+/* Name entry `atom` of a name buffer, which must hold it; 0 if no atom has that number. */
+static inline uint32_t simmerknot_name_entry(const uint8_t *names, size_t atom) {
+    const uint8_t *entry = names + 4 * atom;
+    return (uint32_t)entry[0] | (uint32_t)entry[1] << 8 | (uint32_t)entry[2] << 16 | (uint32_t)entry[3] << 24;
+}
+
+/* Where in the sheet the name of an entry begins, and how many bytes it has. */
+static inline size_t simmerknot_name_place(uint32_t entry) { return entry / 32; }
+static inline size_t simmerknot_name_len(uint32_t entry) { return entry % 32; }
+
+#ifdef __cplusplus
+}
+#endif
+
+#endif

@@ -1,0 +1,128 @@
+//! The three things that are tried: evaluation, the sheet entry, the program.
+
+use std::fs::{self, File};
+use std::path::PathBuf;
+use std::process::{Command, Stdio};
+use std::sync::atomic::{AtomicU64, Ordering};
+
+use second::random::{self, Chance};
+
+use crate::pages::Pages;
+use crate::{Case, Outcome, Target, alter};
+
+fn packed_kind(outcome: &Outcome) -> String {
+    match outcome.answer >> 32 {
+        0 => "ok".to_string(),
+        number => number.to_string(),
+    }
+}
+
+/// Which page a case's buffers lie against; both for small and for large ones.
+fn behind(case: &Case) -> bool {
+    case.bytes.iter().fold(case.n, |sum, &byte| sum.wrapping_mul(31).wrapping_add(byte.into())) % 4 != 0
+}
+
+pub fn evaluation() -> Target {
+    let (mut table, mut values) = (Pages::default(), Pages::default());
+    Target {
+        name: "evaluate",
+        draw: |chance| {
+            let (n, words) = random::any_table(chance);
+            let (_, other) = random::small_table(chance, 6);
+            let bytes = random::table_bytes(&words);
+            let mut bytes = alter::table(chance, bytes, &random::table_bytes(&other));
+            bytes.truncate(200_000);
+            let n = if chance.one_in(20) { random::awkward_number(chance, n) } else { n };
+            let room = random::value_room(chance, n);
+            Case { n, bytes, lent: vec![room] }
+        },
+        engine: Box::new(move |case| {
+            let behind = behind(case);
+            let answer = against::host::evaluate(
+                case.n,
+                table.read_only(&case.bytes, behind),
+                values.to_write(&case.lent[0], behind),
+            );
+            Outcome { answer, left: vec![values.lent().to_vec()] }
+        }),
+        second: |case| {
+            let mut values = case.lent[0].clone();
+            let answer = second::host::simmerknot_evaluate(case.n, &case.bytes, &mut values);
+            Outcome { answer, left: vec![values] }
+        },
+        kind: packed_kind,
+        kinds: &["ok", "1", "2", "3", "4", "5", "6", "7"],
+    }
+}
+
+fn draw_sheet(chance: &mut Chance) -> Vec<u8> {
+    let drawn = if chance.one_in(2) { random::any_sheet(chance) } else { random::accepted_sheet(chance) };
+    let other = random::accepted_sheet(chance);
+    let mut bytes = alter::sheet(chance, drawn, &other);
+    bytes.truncate(200_000);
+    bytes
+}
+
+fn second_sheet(case: &Case) -> Outcome {
+    let mut left = case.lent.clone();
+    let [words, names, text] = &mut left[..] else { panic!("three buffers") };
+    let answer = second::host::simmerknot_sheet(&case.bytes, words, names, text);
+    Outcome { answer, left }
+}
+
+pub fn sheet() -> Target {
+    let mut pages: [Pages; 4] = Default::default();
+    Target {
+        name: "sheet",
+        draw: |chance| {
+            let bytes = draw_sheet(chance);
+            let lent = vec![random::word_bytes(chance), random::name_bytes(chance), vec![0; 14_000]];
+            let mut case = Case { n: 0, bytes, lent };
+            let answer = second_sheet(&case).answer;
+            case.lent[2] = random::text_room(chance, if answer >> 32 == 0 { answer as usize } else { 10 });
+            case
+        },
+        engine: Box::new(move |case| {
+            let behind = behind(case);
+            let [sheet, words, names, text] = &mut pages;
+            let answer = against::host::sheet(
+                sheet.read_only(&case.bytes, behind),
+                words.to_write(&case.lent[0], behind),
+                names.to_write(&case.lent[1], behind),
+                text.to_write(&case.lent[2], behind),
+            );
+            Outcome { answer, left: pages[1..].iter().map(|pages| pages.lent().to_vec()).collect() }
+        }),
+        second: second_sheet,
+        kind: packed_kind,
+        kinds: &["ok", "7", "8", "9", "10", "11", "12", "13", "14", "15"],
+    }
+}
+
+/// The program at that path, its standard input a file of the case's bytes.
+pub fn program(path: PathBuf) -> Target {
+    static MADE: AtomicU64 = AtomicU64::new(0);
+    let made = MADE.fetch_add(1, Ordering::Relaxed);
+    let input = std::env::temp_dir().join(format!("simmerknot-fuzz-{}-{made}", std::process::id()));
+    Target {
+        name: "program",
+        draw: |chance| Case { n: 0, bytes: draw_sheet(chance), lent: Vec::new() },
+        engine: Box::new(move |case| {
+            fs::write(&input, &case.bytes).expect("a temporary file");
+            let stdin = File::open(&input).expect("the temporary file");
+            let run = Command::new(&path).stdin(stdin).stderr(Stdio::null()).output();
+            let run = run.unwrap_or_else(|error| panic!("{}: {error}", path.display()));
+            fs::remove_file(&input).expect("the temporary file");
+            // A program that a signal ended has no code.
+            Outcome { answer: run.status.code().map_or(u64::MAX, |code| code as u64), left: vec![run.stdout] }
+        }),
+        second: |case| Outcome { answer: 0, left: vec![second::program::output(&case.bytes)] },
+        // A value sheet may begin with a name "refused", but has no number after it.
+        kind: |outcome| {
+            let printed = String::from_utf8_lossy(&outcome.left[0]);
+            let number = printed.strip_prefix("refused\t").and_then(|rest| rest.split('\t').next()).unwrap_or("");
+            if number.parse::<u32>().is_ok() { number.to_string() } else { "ok".to_string() }
+        },
+        kinds: &["ok", "7", "8", "10", "11", "12", "13", "14"],
+    }
+}

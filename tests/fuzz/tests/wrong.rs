@@ -1,0 +1,119 @@
+//! Wrong engines are noticed within so many cases, and so is a byte outside a buffer.
+
+use std::process::Command;
+
+use fuzz::{Case, Outcome, Target, run, targets};
+
+/// The target with a fault laid over its engine's outcomes parts from the second implementation within so many cases.
+fn noticed(mut target: Target, within: u64, fault: fn(&Case, &mut Outcome)) {
+    let mut engine = target.engine;
+    target.engine = Box::new(move |case| {
+        let mut outcome = engine(case);
+        fault(case, &mut outcome);
+        outcome
+    });
+    assert!(run(&mut target, 1, |number| number < within).is_err(), "not noticed in {within} cases");
+}
+
+fn number(outcome: &Outcome) -> u64 {
+    outcome.answer >> 32
+}
+
+#[test]
+fn evaluation_with_i_for_t_in_a_table_of_many_atoms() {
+    noticed(targets::evaluation(), 5_000, |case, outcome| {
+        if case.n > 100 && number(outcome) == 0 {
+            if let Some(value) = outcome.left[0].iter_mut().find(|value| **value == 3) {
+                *value = 2;
+            }
+        }
+    });
+}
+
+#[test]
+fn evaluation_with_a_place_too_low() {
+    noticed(targets::evaluation(), 5_000, |_, outcome| {
+        if number(outcome) == 7 {
+            outcome.answer -= 1;
+        }
+    });
+}
+
+#[test]
+fn evaluation_that_writes_on_a_refusal() {
+    noticed(targets::evaluation(), 5_000, |_, outcome| {
+        if number(outcome) == 6 && !outcome.left[0].is_empty() {
+            outcome.left[0][0] ^= 1;
+        }
+    });
+}
+
+#[test]
+fn sheet_with_a_surplus_byte_cleared() {
+    noticed(targets::sheet(), 5_000, |_, outcome| {
+        let words = &mut outcome.left[0];
+        if words.len() % 2 == 1 {
+            *words.last_mut().unwrap() = 0;
+        }
+    });
+}
+
+#[test]
+fn sheet_that_refuses_a_text_room_of_exactly_the_length() {
+    noticed(targets::sheet(), 5_000, |_, outcome| {
+        if outcome.answer == outcome.left[2].len() as u64 {
+            outcome.answer += 15 << 32;
+        }
+    });
+}
+
+#[test]
+fn sheet_with_12_in_the_place_of_7() {
+    noticed(targets::sheet(), 5_000, |_, outcome| {
+        if number(outcome) == 12 {
+            outcome.answer -= 5 << 32;
+        }
+    });
+}
+
+fn simmer() -> Target {
+    targets::program(concat!(env!("CARGO_MANIFEST_DIR"), "/../../target/bin/simmer").into())
+}
+
+#[test]
+fn program_without_its_last_line() {
+    noticed(simmer(), 500, |_, outcome| {
+        let printed = &mut outcome.left[0];
+        if printed.iter().filter(|&&byte| byte == b'\n').count() > 20 {
+            printed.truncate(printed.len() - 1);
+        }
+    });
+}
+
+#[test]
+fn program_with_another_status() {
+    noticed(simmer(), 500, |_, outcome| {
+        if outcome.left[0].starts_with(b"refused\t11\t") {
+            outcome.answer = 1;
+        }
+    });
+}
+
+#[test]
+fn the_right_engines_pass() {
+    for mut target in [targets::evaluation(), targets::sheet(), simmer()] {
+        if let Err(parting) = run(&mut target, 2, |number| number < 500) {
+            panic!("{}: {}", target.name, parting.said());
+        }
+    }
+}
+
+#[test]
+fn a_byte_outside_a_buffer() {
+    for which in ["behind", "in_front"] {
+        let run = Command::new(env!("CARGO_BIN_EXE_fuzz")).args(["touch", which]).output().unwrap();
+        assert_eq!(run.status.code(), Some(1), "{which}");
+        assert!(run.stderr.starts_with(b"fuzz: the engine touched a byte outside its buffers: case 0, seed 0\n"), "{which}");
+        assert!(run.stdout.is_empty(), "{which}");
+    }
+}

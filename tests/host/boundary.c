@@ -1,0 +1,465 @@
+/* boundary PLACEMENT CASES: the two calls at the edges of every lent buffer.
+ *
+ * PLACEMENT says where a lent buffer lies:
+ *   exact   an allocation of exactly its size, for AddressSanitizer and valgrind
+ *   before  its last byte just before a page that can be neither read nor written
+ *   after   its first byte just after such a page
+ * The archive is not instrumented, so a byte too far by its own code shows only against such a page or under valgrind. Where
+ * pages are used, the table and the sheet lie in pages that cannot be written. After the written cases come CASES random ones
+ * of each call. The last line is the number of calls checked; the first fault ends the run. */
+#define _DEFAULT_SOURCE
+#include <simmerknot.h>
+#include <stdio.h>
+#include <stdlib.h>
+#include <string.h>
+#include <sys/mman.h>
+#include <unistd.h>
+
+static enum { EXACT, BEFORE, AFTER } placement;
+static unsigned long calls;
+static const char *what = "";
+
+static void check(int holds, const char *broken) {
+    if (!holds) {
+        printf("boundary: %s: %s (call %lu)\n", what, broken, calls);
+        exit(1);
+    }
+}
+
+/* Lent buffers. */
+
+struct lent {
+    uint8_t *at;
+    size_t len;
+    uint8_t *map; /* NULL where it is an allocation */
+    size_t map_len;
+};
+
+static struct lent lend(const uint8_t *bytes, size_t len) {
+    struct lent b = {NULL, len, NULL, 0};
+    const size_t page = (size_t)sysconf(_SC_PAGESIZE), pages = (len + page - 1) / page * page;
+    if (placement == EXACT) {
+        b.at = malloc(len);
+        check(b.at != NULL || len == 0, "no memory");
+    } else {
+        b.map_len = pages + page;
+        b.map = mmap(NULL, b.map_len, PROT_READ | PROT_WRITE, MAP_PRIVATE | MAP_ANONYMOUS, -1, 0);
+        check(b.map != MAP_FAILED, "no memory");
+        b.at = placement == BEFORE ? b.map + pages - len : b.map + page;
+        check(mprotect(placement == BEFORE ? b.map + pages : b.map, page, PROT_NONE) == 0, "no guard");
+    }
+    if (len) memcpy(b.at, bytes, len);
+    return b;
+}
+
+/* For a buffer that the call only reads. */
+static struct lent lend_to_read(const uint8_t *bytes, size_t len) {
+    struct lent b = lend(bytes, len);
+    const size_t page = (size_t)sysconf(_SC_PAGESIZE);
+    if (b.map && b.map_len > page) {
+        check(mprotect(placement == BEFORE ? b.map : b.map + page, b.map_len - page, PROT_READ) == 0, "no read-only pages");
+    }
+    return b;
+}
+
+static void take_back(struct lent b) {
+    if (b.map) munmap(b.map, b.map_len);
+    else free(b.at);
+}
+
+/* What lies in a buffer before a call: no byte that a call would write in its place by chance everywhere. */
+static uint8_t filler(size_t i) { return (uint8_t)(0xa5 ^ (i * 7)); }
+
+static struct lent lend_filled(size_t len) {
+    uint8_t *bytes = malloc(len + 1);
+    struct lent b;
+    size_t i;
+    check(bytes != NULL, "no memory");
+    for (i = 0; i < len; i++) bytes[i] = filler(i);
+    b = lend(bytes, len);
+    free(bytes);
+    return b;
+}
+
+static void check_untouched(struct lent b, size_t from, const char *broken) {
+    size_t i;
+    for (i = from; i < b.len; i++) check(b.at[i] == filler(i), broken);
+}
+
+static void check_zero(struct lent b, size_t from, size_t to, const char *broken) {
+    size_t i;
+    for (i = from; i < to; i++) check(b.at[i] == 0, broken);
+}
+
+static uint64_t refusal(uint64_t number, uint64_t place) { return number * ((uint64_t)1 << 32) + place; }
+
+/* simmerknot_evaluate. */
+
+/* Values are letters, one for each atom; NULL where any will do. */
+static uint64_t evaluate(uint64_t n, const uint8_t *table, size_t table_len, size_t room, const char *values) {
+    struct lent t = lend_to_read(table, table_len), v = lend_filled(room);
+    const uint64_t answer = simmerknot_evaluate(n, t.at, t.len, v.at, v.len);
+    size_t i;
+    calls++;
+    check(t.len == 0 || memcmp(t.at, table, table_len) == 0, "the table was altered");
+    if (simmerknot_refused(answer)) {
+        const uint32_t number = simmerknot_number(answer);
+        check((number >= 1 && number <= 7) || number == 19, "a number that evaluation does not give");
+        check_untouched(v, 0, "a refusal wrote a value");
+    } else {
+        check(answer == 0, "evaluated, and not 0");
+        check(n <= 512 && n <= room, "accepted against 1 or 3");
+        for (i = 0; i < n; i++) {
+            const simmerknot_value value = simmerknot_value_of_code(v.at[i]);
+            check(value != SIMMERKNOT_NO_VALUE, "no value code");
+            if (values) check(value == simmerknot_value_of_letter((uint8_t)values[i]), "another value");
+        }
+        check_untouched(v, (size_t)n, "a byte past the values was altered");
+    }
+    take_back(t);
+    take_back(v);
+    return answer;
+}
+
+static size_t put_words(uint8_t *bytes, const uint16_t *words, size_t count) {
+    size_t i;
+    for (i = 0; i < count; i++) {
+        bytes[2 * i] = (uint8_t)(words[i] % 256);
+        bytes[2 * i + 1] = (uint8_t)(words[i] / 256);
+    }
+    return 2 * count;
+}
+
+struct table_case {
+    const char *what;
+    uint64_t n;
+    uint16_t words[24];
+    size_t count, surplus, room;
+    uint64_t number, place;
+    const char *values;
+};
+
+static const struct table_case table_cases[] = {
+    {"no rules, N 0", 0, {0}, 0, 0, 0, 0, 0, ""},
+    {"no rules, N 3", 3, {0}, 0, 0, 3, 0, 0, "uuu"},
+    {"p", 1, {0, 0}, 2, 0, 1, 0, 0, "t"},
+    {"-p", 1, {1, 0}, 2, 0, 1, 0, 0, "f"},
+    {"p, -p", 1, {0, 0, 1, 0}, 4, 0, 1, 0, 0, "i"},
+    {"p, -p: p, with room to spare", 1, {0, 0, 1, 1, 1, 0}, 6, 0, 9, 0, 0, "i"},
+    {"-b: b", 1, {1, 1, 1, 0}, 4, 0, 1, 0, 0, "u"},
+    {"a, -a, p: a b", 3, {0, 0, 1, 0, 4, 1, 2, 0, 2}, 9, 0, 3, 0, 0, "iuu"},
+    {"a, -a, b, p: a / b", 3, {0, 0, 1, 0, 2, 0, 4, 2, 1, 0, 1, 2}, 12, 0, 3, 0, 0, "itt"},
+    {"N above 512", 513, {0}, 0, 0, 513, 1, 0, NULL},
+    {"N far above 512", UINT64_MAX, {0}, 0, 0, 0, 1, 0, NULL},
+    {"room below N", 3, {0, 0}, 2, 0, 2, 3, 0, NULL},
+    {"no room", 1, {0, 0}, 2, 0, 0, 3, 0, NULL},
+    {"cut short after a head", 1, {0}, 1, 0, 1, 4, 1, NULL},
+    {"cut short in a group", 2, {0, 1, 2, 2}, 4, 0, 2, 4, 4, NULL},
+    {"a lone byte", 1, {0, 0}, 2, 1, 1, 4, 2, NULL},
+    {"a lone byte after a fault", 1, {0, 65}, 2, 1, 1, 6, 1, NULL},
+    {"one byte alone", 1, {0}, 0, 1, 1, 4, 0, NULL},
+    {"literal not below 2N", 1, {2, 0}, 2, 0, 1, 5, 0, NULL},
+    {"literal not below 2N in a body", 1, {0, 1, 1, 65535}, 4, 0, 1, 5, 3, NULL},
+    {"65 groups", 1, {0, 65}, 2, 0, 1, 6, 1, NULL},
+    {"a group of none", 1, {0, 1, 0}, 3, 0, 1, 6, 2, NULL},
+    {"a group of 65", 1, {0, 1, 65}, 3, 0, 1, 6, 2, NULL},
+    {"second rule", 1, {0, 0, 0, 0}, 4, 0, 1, 7, 2, NULL},
+};
+
+static void written_tables(void) {
+    uint8_t bytes[64];
+    size_t i;
+    for (i = 0; i < sizeof table_cases / sizeof *table_cases; i++) {
+        const struct table_case *c = &table_cases[i];
+        const size_t len = put_words(bytes, c->words, c->count) + c->surplus;
+        if (c->surplus) bytes[len - 1] = 7;
+        what = c->what;
+        check(evaluate(c->n, bytes, len, c->room, c->values) == refusal(c->number, c->place), "another answer");
+    }
+}
+
+/* Exactly 8,192 words for 512 atoms: a chain back to front whose bodies repeat the atom before; all are t. */
+static void full_tables(void) {
+    static uint8_t bytes[2 * 8194];
+    static char values[513];
+    uint16_t words[70];
+    size_t len = 0, left = 8192 - 2, atom, k, j;
+    memset(values, 't', 512);
+    for (atom = 511; atom > 0; atom--) {
+        k = left / atom - 3;
+        words[0] = (uint16_t)(2 * atom);
+        words[1] = 1;
+        words[2] = (uint16_t)k;
+        for (j = 0; j < k; j++) words[3 + j] = (uint16_t)(2 * atom - 2);
+        len += put_words(bytes + len, words, k + 3);
+        left -= k + 3;
+    }
+    words[0] = words[1] = 0;
+    len += put_words(bytes + len, words, 2);
+    what = "8,192 words";
+    check(len == 16384 && left == 0, "the table is not full");
+    check(evaluate(512, bytes, len, 512, values) == 0, "another answer");
+    check(evaluate(512, bytes, len, 700, values) == 0, "another answer");
+    check(evaluate(512, bytes, len, 511, NULL) == refusal(3, 0), "another answer");
+    check(evaluate(512, bytes, len + 1, 512, NULL) == refusal(4, 8192), "another answer");
+    check(evaluate(512, bytes, len + 2, 512, NULL) == refusal(2, 0), "another answer");
+    check(evaluate(512, bytes, len - 1, 512, NULL) == refusal(4, 8191), "another answer");
+}
+
+/* simmerknot_sheet. */
+
+static size_t lines_of(const uint8_t *sheet, size_t len) {
+    size_t i, lines = 0;
+    for (i = 0; i < len; i++) lines += sheet[i] == '\n';
+    return lines;
+}
+
+/* What an accepted sheet left: names that stand in the sheet, one record a line, zeros after both, and a value sheet that says
+ * of each headed atom, in atom order, what an evaluation of those very words says. */
+static void check_accepted(const uint8_t *sheet, size_t sheet_len, struct lent w, struct lent n, struct lent t, size_t text_len) {
+    static uint8_t headed[512], values[512];
+    size_t atoms = 0, at = 0, line, lines = lines_of(sheet, sheet_len), i, text = 0;
+    while (atoms < n.len / 4 && simmerknot_name_entry(n.at, atoms) != 0) {
+        const uint32_t entry = simmerknot_name_entry(n.at, atoms++);
+        check(simmerknot_name_len(entry) <= SIMMERKNOT_MOST_NAME_BYTES, "a name entry of more than 24 bytes");
+        check(simmerknot_name_place(entry) + simmerknot_name_len(entry) < sheet_len, "a name entry outside the sheet");
+    }
+    check(atoms <= 512, "more than 512 atoms");
+    check_zero(n, 4 * atoms, n.len / 4 * 4, "a name entry after the last is not zero");
+    memset(headed, 0, sizeof headed);
+    for (line = 0; line < lines; line++) {
+        size_t groups;
+        check(at + 1 < 8192, "a record outside the words");
+        headed[(w.at[2 * at] + 256u * w.at[2 * at + 1]) / 2 % 512] = 1;
+        groups = w.at[2 * at + 2];
+        at += 2;
+        for (i = 0; i < groups; i++) at += 1u + w.at[2 * at];
+        check(at <= 8192, "a record outside the words");
+    }
+    check_zero(w, 2 * at, w.len / 2 * 2, "a word after the last is not zero");
+    check(simmerknot_evaluate(atoms, w.at, 2 * at, values, sizeof values) == 0, "the words are no table");
+    for (i = 0; i < atoms; i++) {
+        const uint32_t entry = simmerknot_name_entry(n.at, i);
+        const size_t len = simmerknot_name_len(entry);
+        if (!headed[i]) continue;
+        check(text + len + 3 <= text_len, "the value sheet is too short");
+        check(memcmp(t.at + text, sheet + simmerknot_name_place(entry), len) == 0, "another name");
+        check(t.at[text + len] == '\t' && t.at[text + len + 2] == '\n', "not a line");
+        check((int)simmerknot_value_of_letter(t.at[text + len + 1]) == values[i], "another value");
+        text += len + 3;
+    }
+    check(text == text_len, "the value sheet is too long");
+}
+
+static uint64_t read_sheet(const uint8_t *sheet, size_t sheet_len, size_t words_len, size_t names_len, size_t text_len) {
+    struct lent s = lend_to_read(sheet, sheet_len), w = lend_filled(words_len), n = lend_filled(names_len), t = lend_filled(text_len);
+    const uint64_t answer = simmerknot_sheet(s.at, s.len, w.at, w.len, n.at, n.len, t.at, t.len);
+    calls++;
+    check(s.len == 0 || memcmp(s.at, sheet, sheet_len) == 0, "the sheet was altered");
+    check_untouched(w, words_len / 2 * 2, "the byte after the last word was altered");
+    check_untouched(n, names_len / 4 * 4, "a byte after the last name entry was altered");
+    if (simmerknot_refused(answer)) {
+        const uint32_t number = simmerknot_number(answer);
+        check((number >= 7 && number <= 15) || number == 19, "a number that the sheet entry does not give");
+        check_zero(w, 0, words_len / 2 * 2, "a refusal left a word");
+        check_zero(n, 0, names_len / 4 * 4, "a refusal left a name entry");
+        check_untouched(t, 0, "a refusal wrote text");
+    } else {
+        check(answer <= text_len, "longer than the text room");
+        check_untouched(t, (size_t)answer, "a byte past the value sheet was altered");
+        check_accepted(sheet, sheet_len, w, n, t, (size_t)answer);
+    }
+    take_back(s);
+    take_back(w);
+    take_back(n);
+    take_back(t);
+    return answer;
+}
+
+struct sheet_case {
+    const char *sheet;
+    size_t words_len, names_len, text_len;
+    uint64_t number, place; /* 0: accepted, and the place is the value sheet's length */
+};
+
+static const struct sheet_case sheet_cases[] = {
+    {"", 16384, 2048, 0, 0, 0},
+    {"a\n", 16384, 2048, 4, 0, 4},
+    {"a\n", 16385, 2049, 4, 0, 4},
+    {"a\n", 16387, 2051, 5, 0, 4},
+    {"a\n", 16391, 2055, 13824, 0, 4},
+    {"a\n", 40001, 5003, 4, 0, 4},
+    {"-b\tb\n", 16384, 2048, 4, 0, 4},
+    {"a\tc\nb\nc\n", 16384, 2048, 12, 0, 12},
+    {"arrived\tlogged\tmailed\nlogged\n-arrived\tgap\ngap\nscored\tarrived audited\naudited\n", 16384, 2048, 44, 0, 44},
+    {"a\n", 16384, 2048, 3, 15, 4},
+    {"a\n", 16384, 2048, 0, 15, 4},
+    {"a\n", 16383, 2048, 4, 9, 0},
+    {"a\n", 16384, 2047, 4, 9, 0},
+    {"a\n", 1, 3, 4, 9, 0},
+    {"a\n", 0, 0, 4, 9, 0},
+    {"", 16384, 0, 0, 9, 0},
+    {"a\na\n", 16384, 2048, 8, 7, 2},
+    {"a\n-b\n-b\n", 16384, 2048, 8, 7, 5},
+    {"a", 16384, 2048, 4, 10, 1},
+    {"a b\n", 16384, 2048, 4, 10, 1},
+    {"a\t\n", 16384, 2048, 4, 10, 2},
+    {"a\n\n", 16384, 2048, 4, 10, 2},
+    {"\xff\n", 16384, 2048, 4, 10, 0},
+    {"abcdefghijklmnopqrstuvwx\n", 16384, 2048, 27, 0, 27},
+    {"abcdefghijklmnopqrstuvwxy\n", 16384, 2048, 27, 11, 24},
+};
+
+static void written_sheets(void) {
+    size_t i;
+    for (i = 0; i < sizeof sheet_cases / sizeof *sheet_cases; i++) {
+        const struct sheet_case *c = &sheet_cases[i];
+        what = c->sheet;
+        check(read_sheet((const uint8_t *)c->sheet, strlen(c->sheet), c->words_len, c->names_len, c->text_len) ==
+                  refusal(c->number, c->place),
+              "another answer");
+    }
+}
+
+/* Both sides of the limits that need a long sheet. */
+static void long_sheets(void) {
+    static char sheet[70000];
+    size_t len, i, at;
+    for (i = 0, len = 0; i < 513; i++) {
+        at = len;
+        len += (size_t)sprintf(sheet + len, "n%lu\n", (unsigned long)i);
+        if (i == 511) {
+            what = "512 names";
+            check(!simmerknot_refused(read_sheet((uint8_t *)sheet, len, 16384, 2048, 13824)), "refused");
+        }
+    }
+    what = "513 names";
+    check(read_sheet((uint8_t *)sheet, len, 16384, 2048, 13824) == refusal(12, at), "another answer");
+    for (i = 0, len = (size_t)sprintf(sheet, "a"); i < 64; i++) len += (size_t)sprintf(sheet + len, "\tb");
+    strcpy(sheet + len, "\n");
+    what = "64 groups";
+    check(read_sheet((uint8_t *)sheet, len + 1, 16384, 2048, 4) == 4, "another answer");
+    strcpy(sheet + len, "\tb\n");
+    what = "65 groups";
+    check(read_sheet((uint8_t *)sheet, len + 3, 16384, 2048, 4) == refusal(13, len + 1), "another answer");
+    /* 63 lines of 130 words, and a fact. */
+    for (i = 0, len = 0; i < 63; i++) {
+        len += (size_t)sprintf(sheet + len, "h%lu", (unsigned long)i);
+        for (at = 0; at < 64; at++) len += (size_t)sprintf(sheet + len, "\tb");
+        len += (size_t)sprintf(sheet + len, "\n");
+    }
+    len += (size_t)sprintf(sheet + len, "x");
+    strcpy(sheet + len, "\n");
+    what = "8,192 words";
+    check(!simmerknot_refused(read_sheet((uint8_t *)sheet, len + 1, 16384, 2048, 13824)), "refused");
+    strcpy(sheet + len, "\tb\n");
+    what = "8,194 words";
+    check(read_sheet((uint8_t *)sheet, len + 3, 16384, 2048, 13824) == refusal(14, len + 1), "another answer");
+    memset(sheet, 'a', sizeof sheet);
+    what = "65,536 bytes";
+    check(read_sheet((uint8_t *)sheet, 65536, 16384, 2048, 0) == refusal(11, 24), "another answer");
+    what = "65,537 bytes";
+    check(read_sheet((uint8_t *)sheet, 65537, 16384, 2048, 0) == refusal(8, 0), "another answer");
+    what = "65,537 bytes and small buffers";
+    check(read_sheet((uint8_t *)sheet, 65537, 7, 7, 0) == refusal(8, 0), "another answer");
+}
+
+/* Lengths 0 with null pointers, all at once and buffer by buffer. */
+static void nulls(void) {
+    uint8_t *words = calloc(1, 16384), *names = calloc(1, 2048);
+    uint8_t one = 9;
+    what = "null pointers";
+    check(words && names, "no memory");
+    check(simmerknot_evaluate(0, NULL, 0, NULL, 0) == 0, "N 0");
+    check(simmerknot_evaluate(1, NULL, 0, NULL, 0) == refusal(3, 0), "N 1");
+    check(simmerknot_evaluate(1, NULL, 0, &one, 1) == 0 && one == 1, "no table");
+    check(simmerknot_evaluate(0, (const uint8_t *)"\0\0\0", 2, NULL, 0) == refusal(5, 0), "no room");
+    check(simmerknot_sheet(NULL, 0, NULL, 0, NULL, 0, NULL, 0) == refusal(9, 0), "nothing at all");
+    check(simmerknot_sheet(NULL, 0, words, 16384, NULL, 0, NULL, 0) == refusal(9, 0), "no name buffer");
+    check(simmerknot_sheet(NULL, 0, NULL, 0, names, 2048, NULL, 0) == refusal(9, 0), "no word buffer");
+    check(simmerknot_sheet(NULL, 0, words, 16384, names, 2048, NULL, 0) == 0, "the empty sheet");
+    check(simmerknot_sheet((const uint8_t *)"p\n", 2, words, 16384, names, 2048, NULL, 0) == refusal(15, 4), "no text room");
+    calls += 9;
+    free(words);
+    free(names);
+}
+
+/* Random calls. */
+
+static uint64_t state = 0x51ee7;
+
+static size_t below(size_t bound) {
+    state ^= state << 13;
+    state ^= state >> 7;
+    state ^= state << 17;
+    return (size_t)(state >> 11) % bound;
+}
+
+static void random_tables(unsigned long count) {
+    static const uint16_t edges[] = {0, 1, 64, 65, 1023, 1024, 65535};
+    uint16_t words[40];
+    uint8_t bytes[81];
+    what = "random tables";
+    while (count--) {
+        const size_t len = below(41), n = below(5), lone = below(8) == 0;
+        size_t i;
+        for (i = 0; i < len; i++) words[i] = below(20) ? (uint16_t)below(5) : edges[below(7)];
+        put_words(bytes, words, len);
+        bytes[2 * len] = (uint8_t)below(256);
+        evaluate(n, bytes, 2 * len + lone, n + below(4) - (n && below(8) == 0), NULL);
+    }
+}
+
+static void random_sheets(unsigned long count) {
+    static const char letters[] = "aabbc.0--\t\t  \n\n\n\n";
+    uint8_t sheet[60];
+    what = "random sheets";
+    while (count--) {
+        const size_t len = below(sizeof sheet);
+        size_t i;
+        for (i = 0; i < len; i++) sheet[i] = below(60) ? (uint8_t)letters[below(sizeof letters - 1)] : (uint8_t)below(256);
+        if (len && below(8)) sheet[len - 1] = '\n';
+        read_sheet(sheet, len, below(8) ? 16384 + below(9) : below(16384), below(8) ? 2048 + below(9) : below(2048), below(60));
+    }
+}
+
+/* Random sheets of that kind are nearly all refused; these are rules over few names, so nearly all are accepted. */
+static void random_rules(unsigned long count) {
+    char sheet[600];
+    what = "random rules";
+    while (count--) {
+        const size_t atoms = 1 + below(6), head_from = below(2);
+        size_t len = 0, head;
+        for (head = head_from; head < 2 * atoms; head += 1 + below(2)) {
+            size_t groups = below(4);
+            len += (size_t)sprintf(sheet + len, "%sn%lu", head % 2 ? "-" : "", (unsigned long)(head / 2));
+            while (groups--) {
+                size_t k = 1 + below(3);
+                const char *part = "\t";
+                while (k--) {
+                    len += (size_t)sprintf(sheet + len, "%s%sn%lu", part, below(2) ? "-" : "", (unsigned long)below(atoms));
+                    part = " ";
+                }
+            }
+            sheet[len++] = '\n';
+        }
+        check(!simmerknot_refused(read_sheet((uint8_t *)sheet, len, 16384, 2048, 30 + below(9))), "refused");
+    }
+}
+
+int main(int argc, char **argv) {
+    unsigned long count;
+    if (argc != 3) return 2;
+    placement = strcmp(argv[1], "exact") == 0 ? EXACT : strcmp(argv[1], "before") == 0 ? BEFORE : AFTER;
+    count = strtoul(argv[2], NULL, 10);
+    nulls();
+    written_tables();
+    full_tables();
+    written_sheets();
+    long_sheets();
+    random_tables(count);
+    random_sheets(count);
+    random_rules(count);
+    printf("%lu\n", calls);
+    return 0;
+}

@@ -1,0 +1,46 @@
+"""shared.py LIBRARY: the archive as a shared library, called through ctypes on examples/season.sheet. The last line counts calls."""
+import ctypes
+import sys
+
+library = ctypes.CDLL(sys.argv[1])
+size, number, pointer = ctypes.c_size_t, ctypes.c_uint64, ctypes.c_char_p
+library.simmerknot_version.argtypes = []
+library.simmerknot_evaluate.argtypes = [number, pointer, size, pointer, size]
+library.simmerknot_sheet.argtypes = [pointer, size, pointer, size, pointer, size, pointer, size]
+for call in (library.simmerknot_version, library.simmerknot_evaluate, library.simmerknot_sheet):
+    call.restype = number
+
+calls = 0
+
+
+def same(what, found, wanted):
+    global calls
+    if found != wanted:
+        sys.exit(f"shared.py: {what}: {found!r}, not {wanted!r}")
+    calls += 1
+
+
+def evaluate(n, words, room):
+    table = b"".join(word.to_bytes(2, "little") for word in words)
+    values = ctypes.create_string_buffer(b"\7" * room, room)
+    return library.simmerknot_evaluate(n, table, len(table), values, room), values.raw
+
+
+def read(sheet, room):
+    words = ctypes.create_string_buffer(16384)
+    names = ctypes.create_string_buffer(2048)
+    text = ctypes.create_string_buffer(b"\7" * room, room)
+    answer = library.simmerknot_sheet(sheet, len(sheet), words, 16384, names, 2048, text, room)
+    return answer, text.raw
+
+
+major, minor, patch = (int(part) for part in sys.argv[2].split("."))
+same("version", library.simmerknot_version(), 1000000 * major + 1000 * minor + patch)
+same("p, -p, q", evaluate(3, [0, 0, 1, 0, 2, 0], 4), (0, b"\2\3\1\7"))
+same("second rule", evaluate(1, [0, 0, 0, 0], 1), ((7 << 32) + 2, b"\7"))
+same("null pointers", library.simmerknot_evaluate(0, None, 0, None, 0), 0)
+same("null pointers", library.simmerknot_sheet(None, 0, None, 0, None, 0, None, 0), 9 << 32)
+season, values = (open(f"examples/season.{kind}", "rb").read() for kind in ("sheet", "values"))
+same("season", read(season, len(values) + 1), (len(values), values + b"\7"))
+same("no room", read(season, len(values) - 1), ((15 << 32) + len(values), b"\7" * (len(values) - 1)))
+print(calls)

@@ -1,0 +1,39 @@
+/* Faults at the boundary that boundary.c must notice, by -DFAULT=1 to 10, laid around the real calls by the linker (--wrap). */
+#include <simmerknot.h>
+#include <string.h>
+
+uint64_t __real_simmerknot_evaluate(uint64_t n, const uint8_t *table, size_t table_len, uint8_t *values, size_t values_len);
+uint64_t __real_simmerknot_sheet(const uint8_t *sheet, size_t sheet_len, uint8_t *words, size_t words_len, uint8_t *names,
+                                 size_t names_len, uint8_t *text, size_t text_len);
+uint64_t __wrap_simmerknot_evaluate(uint64_t n, const uint8_t *table, size_t table_len, uint8_t *values, size_t values_len);
+uint64_t __wrap_simmerknot_sheet(const uint8_t *sheet, size_t sheet_len, uint8_t *words, size_t words_len, uint8_t *names,
+                                 size_t names_len, uint8_t *text, size_t text_len);
+
+static volatile uint8_t sink;
+
+uint64_t __wrap_simmerknot_evaluate(uint64_t n, const uint8_t *table, size_t table_len, uint8_t *values, size_t values_len) {
+    uint64_t answer;
+    /* 1, 2: one byte too many is read, behind the table or in front of it */
+    if (FAULT == 1 && table_len) sink = table[table_len];
+    if (FAULT == 2 && table_len) sink = *(table - 1);
+    answer = __real_simmerknot_evaluate(n, table, table_len, values, values_len);
+    /* 3: a byte past the values; 4: a value written on a refusal; 5: the table used as room */
+    if (FAULT == 3 && !simmerknot_refused(answer) && values_len > n) values[n] = 1;
+    if (FAULT == 4 && simmerknot_refused(answer) && values_len) values[0] = 1;
+    if (FAULT == 5 && table_len) ((uint8_t *)(uintptr_t)table)[0] = 0;
+    return answer;
+}
+
+uint64_t __wrap_simmerknot_sheet(const uint8_t *sheet, size_t sheet_len, uint8_t *words, size_t words_len, uint8_t *names,
+                                 size_t names_len, uint8_t *text, size_t text_len) {
+    uint64_t answer;
+    /* 6: one byte too many is read behind the sheet */
+    if (FAULT == 6 && sheet_len) sink = sheet[sheet_len];
+    answer = __real_simmerknot_sheet(sheet, sheet_len, words, words_len, names, names_len, text, text_len);
+    /* 7: a surplus byte is cleared; 8: a refusal leaves an entry; 9: a byte past the value sheet; 10: entries past 8,192 stay */
+    if (FAULT == 7 && words_len % 2) words[words_len - 1] = 0;
+    if (FAULT == 8 && simmerknot_refused(answer) && names_len >= 4) names[0] = 1;
+    if (FAULT == 9 && !simmerknot_refused(answer) && text_len > answer) text[answer] = 0;
+    if (FAULT == 10 && words_len > 16387) memset(words + 16384, 7, 2);
+    return answer;
+}
