@@ -12,7 +12,7 @@ use Rattle.words.specs.declared.Checked.{Checked}
 use Rattle.words.specs.declared.Checked.the-variants.{Accepted, Refused}
 use Rattle.words.specs.Check.{asking, orElse, tableCheck}
 use Rattle.words.specs.Layout.{rulesOf}
-use Rattle.words.proofs.Laws.{accepted-heads}
+use Rattle.words.proofs.Laws.{refused≢accepted, accepted-heads}
 use Rattle.words.proofs.Bounds.{Within, asking-within, orElse-within, check-within}
 use Rattle.paper.specs.Rules.{positive}
 use Rattle.paper.specs.Definitions.{Interpretation, value, Smallest}
@@ -36,9 +36,6 @@ always-settles N t room e A m =
     let a = evaluation-accepted N t room e in
     let below = accepted-heads N t (a .1) in
     all-marked→settled (rulesOf t) N below A (count-full N A (let c = marking-count (rulesOf t) N below m in omega arith))
-
-refused≢accepted : (f : Refusal) → Refused f ≡ Accepted → ⊥
-refused≢accepted f e = let z : _≡_ {A = ℕ} 0 1 = cc in omega arith
 
 pub refused-is : (N : ℕ) (t room room′ : List ℕ) (ans : EvaluationAnswer) (r : Refusal) → EvaluationAllows N t room ans room′ → ans ≡ EvaluationAnswer.Refused r
     → (evaluationFault N t (length room) ≡ Refused r) × (room′ ≡ room)

@@ -1,20 +1,30 @@
 -- Two outcomes that the host's promise allows are equal. Assumes nothing.
+use mathlib.Core.Bool.{Bool, not}
 use mathlib.Core.List.{List}
 use mathlib.Core.Path.{_≡_, refl, sym, ap, _∙_}
 use Prim.Native.Nat.{ℕ}
-use native.Mathlib.Omega.{arith}
+use lib.ListN.{length}
 use Rattle.refusal.specs.declared.Refusal.{Refusal}
+use Rattle.refusal.specs.Numbers.{cut-short}
 use Rattle.words.specs.declared.Checked.the-variants.{Accepted, Refused}
+use Rattle.words.specs.Check.{asking, AcceptedTable}
 use Rattle.words.specs.Layout.{rulesOf}
+use Rattle.words.proofs.Steps.{orElse-accepted}
+use Rattle.words.proofs.Laws.{refused≢accepted}
 use Rattle.paper.specs.Rules.{positive}
 use Rattle.paper.specs.Definitions.{Interpretation, value}
 use Rattle.paper.proofs.Smallest.{smallest-unique}
 use Rattle.picks.specs.Entries.{written}
+use Rattle.evaluation.specs.Evaluation.{evaluationFault}
+use Rattle.evaluation.proofs.Evaluated.{evaluation-accepted}
 use Rattle.host.specs.Bytes.{wordsIn}
-use Rattle.host.specs.Evaluation.{HostEvaluation, packed}
+use Rattle.host.specs.Evaluation.{hostFault, HostEvaluation, packed}
 
-refused≢accepted : (f : Refusal) → Refused f ≡ Accepted → ⊥
-refused≢accepted f e = let z : _≡_ {A = ℕ} 0 1 = cc in omega arith
+-- where the host finds no fault the whole words are an accepted table
+pub host-accepted : (N : ℕ) (t : List ℕ) (lone : Bool) (room : ℕ) → hostFault N t lone room ≡ Accepted → AcceptedTable N t
+unfolding hostFault
+host-accepted N t lone room e =
+    evaluation-accepted N t room (orElse-accepted (evaluationFault N t room) (asking (not lone) (cut-short (length t)) Accepted) e .0) .1
 
 pub host-determined : (N : ℕ) (bytes room : List ℕ) {a b : ℕ} {x y : List ℕ} → HostEvaluation N bytes room a x → HostEvaluation N bytes room b y → (a ≡ b) × (x ≡ y)
 host-determined N bytes room (HostEvaluation.refused {f} e) (HostEvaluation.refused {f = g} e′) = let q : f ≡ g = cc in (ap packed q, refl)

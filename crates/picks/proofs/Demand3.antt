@@ -11,7 +11,7 @@ use Rattle.words.specs.declared.Checked.{Checked}
 use Rattle.words.specs.declared.Checked.the-variants.{Accepted, Refused}
 use Rattle.words.specs.Check.{AcceptedTable}
 use Rattle.words.specs.Layout.{rulesOf}
-use Rattle.words.proofs.Laws.{accepted-heads, accepted-atoms, accepted-one-rule, accepted-length}
+use Rattle.words.proofs.Laws.{refused≢accepted, accepted-heads, accepted-atoms, accepted-one-rule, accepted-length}
 use Rattle.paper.specs.Rules.{positive, _∈_}
 use Rattle.paper.specs.Definitions.{Interpretation, value, Smallest}
 use Rattle.paper.specs.Marking.{Marks, Marked, CanBeMarked, Settled, inconsistent, count, settledValue}
@@ -28,7 +28,7 @@ use Rattle.picks.specs.declared.ReportAnswer.{ReportAnswer}
 use Rattle.picks.specs.declared.CountAnswer.{CountAnswer}
 use Rattle.picks.specs.Entries.{marksOf, noMarksFor, withMarks, PickAllows, ReportAllows, CountAllows, written}
 use Rattle.picks.specs.Traces.{Picks, PickPasses}
-use Rattle.picks.proofs.Tracing.{RecordFor, fresh-for, picks-pass, picks-marking, passes-passes, refused≢accepted}
+use Rattle.picks.proofs.Tracing.{RecordFor, fresh-for, picks-pass, picks-marking, passes-passes}
 use Rattle.picks.proofs.Faultless.{reports, counts}
 
 -- a pick touches no other atom's mark, and not N

@@ -7,6 +7,7 @@ use native.Mathlib.Omega.{arith}
 use lib.Dec.{T, T-not}
 use Rattle.refusal.specs.declared.Refusal.{Refusal}
 use Rattle.words.specs.declared.Checked.the-variants.{Accepted, Refused}
+use Rattle.words.proofs.Laws.{refused≢accepted}
 use Rattle.paper.specs.Definitions.{Interpretation}
 use Rattle.paper.specs.Marking.{IsHeld, settledValue}
 use Rattle.paper.proofs.Tests.{same-tests→≡}
@@ -17,7 +18,6 @@ use Rattle.picks.specs.declared.SettledAnswer.{SettledAnswer}
 use Rattle.picks.specs.declared.ReportAnswer.{ReportAnswer}
 use Rattle.picks.specs.declared.CountAnswer.{CountAnswer}
 use Rattle.picks.specs.Entries.{marksOf, FreshAllows, PickAllows, SettledAllows, ReportAllows, CountAllows, written}
-use Rattle.picks.proofs.Tracing.{refused≢accepted}
 
 pub fresh-determined : (N : ℕ) {a b : FreshAnswer} {x y : MarkRecord} → FreshAllows N a x → FreshAllows N b y → (a ≡ b) × (x ≡ y)
 fresh-determined N (FreshAllows.fresh e) (FreshAllows.fresh e′) = (refl, refl)

@@ -11,7 +11,7 @@ use Rattle.words.specs.declared.Checked.{Checked}
 use Rattle.words.specs.declared.Checked.the-variants.{Accepted, Refused}
 use Rattle.words.specs.Check.{AcceptedTable}
 use Rattle.words.specs.Layout.{rulesOf}
-use Rattle.words.proofs.Laws.{accepted-atoms, accepted-length}
+use Rattle.words.proofs.Laws.{refused≢accepted, accepted-atoms, accepted-length}
 use Rattle.paper.specs.Definitions.{Interpretation}
 use Rattle.paper.specs.Marking.{Settled, IsHeld, settledValue, count}
 use Rattle.marking.specs.Faults.{recordFault, reportFault}
@@ -20,7 +20,7 @@ use Rattle.picks.specs.declared.MarkRecord.{MarkRecord}
 use Rattle.picks.specs.declared.ReportAnswer.{ReportAnswer}
 use Rattle.picks.specs.declared.CountAnswer.{CountAnswer}
 use Rattle.picks.specs.Entries.{marksOf, ReportAllows, CountAllows, written}
-use Rattle.picks.proofs.Tracing.{RecordFor, refused≢accepted}
+use Rattle.picks.proofs.Tracing.{RecordFor}
 
 module _ (N : ℕ) (t : List ℕ) (accepted : AcceptedTable N t) (r : MarkRecord) (g : RecordFor N r) where
   record-accepted : recordFault (r .n) (marksOf r) ≡ Accepted

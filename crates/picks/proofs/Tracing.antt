@@ -14,7 +14,7 @@ use Rattle.words.specs.declared.Checked.{Checked}
 use Rattle.words.specs.declared.Checked.the-variants.{Accepted, Refused}
 use Rattle.words.specs.Check.{AcceptedTable, orElse, asking, tableCheck}
 use Rattle.words.specs.Layout.{rulesOf}
-use Rattle.words.proofs.Laws.{accepted-heads, accepted-atoms, accepted-one-rule, accepted-length}
+use Rattle.words.proofs.Laws.{refused≢accepted, accepted-heads, accepted-atoms, accepted-one-rule, accepted-length}
 use Rattle.paper.specs.Rules.{Rule, _∈_}
 use Rattle.paper.specs.Marking.{Marks, Marked, Unmarked, CanBeMarked, Settled, Marking, none, mark, noMarks, Pass, end, marks, leaves, Passes, no-pass, then-pass}
 use Rattle.paper.proofs.Order.{can-be-marked-below, pass-marking}
@@ -39,9 +39,6 @@ fresh-for N = record { same-n = refl; eight = refl; below = λ a h. absurd (subs
 
 pub fresh-marks : (N : ℕ) → marksOf (noMarksFor N) ≡ noMarks
 fresh-marks N = mathlib.Core.Path.fun-ext (member-of-zeros 8)
-
-pub refused≢accepted : (f : Refusal) → Refused f ≡ Accepted → ⊥
-refused≢accepted f e = let z : _≡_ {A = ℕ} 0 1 = cc in omega arith
 
 module _ (N : ℕ) (t : List ℕ) (accepted : AcceptedTable N t) where
   -- an atom below N is not refused

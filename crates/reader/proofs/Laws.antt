@@ -20,7 +20,7 @@ use Rattle.reader.specs.declared.Next.{Next}
 use Rattle.reader.specs.declared.Reading.{Reading}
 use Rattle.reader.specs.declared.Reading.the-variants.{End, Refused, Literal}
 use Rattle.reader.specs.Sheet.{byteAt, isTab, isLineEnd, isSpace, isMinus, startsName, isDigit, continuesName, nameRun, mayFollow, byteBefore}
-use Rattle.reader.specs.Readings.{asking, literal, endedName, nameAt, literalAt, lineAt, readingAfter, readingAt, placeAfter, nextAt}
+use Rattle.reader.specs.Readings.{asking, literal, endedName, nameAt, literalAt, lineAt, readingAfter, readingAt, placeAfter, nextAt, ReadersNumber, GivesOnly, NoLiteral, reached}
 use Rattle.reader.proofs.Runs.{inside-by, name-inside, run-on}
 
 pub refused-is-no-literal : (r : Refusal) (l : SheetLiteral) → Refused r ≡ Literal l → ⊥
@@ -163,15 +163,6 @@ place-fits s p (Refused r) h e = h
 place-fits s p (Literal l) h e =
     omega (arith, literal-read s p l (sym e) .sheet-fits, literal-read s p l (sym e) .named .inside)
 
--- document 01: "The reader itself gives only 8, 10 and 11"
-abbrev pub ReadersNumber : ℕ → Type 0
-ReadersNumber n = (n ≡ 8) ⊎ ((n ≡ 10) ⊎ (n ≡ 11))
-
-abbrev pub GivesOnly : Reading → Type 0
-GivesOnly End = Unit {0}
-GivesOnly (Refused r) = ReadersNumber (r .number)
-GivesOnly (Literal l) = Unit {0}
-
 asking-gives : (b : Bool) (r : Refusal) (rest : Reading) → ReadersNumber (r .number) → GivesOnly rest → GivesOnly (asking b r rest)
 asking-gives true r rest h g = g
 asking-gives false r rest h g = h
@@ -207,12 +198,6 @@ gives-only-8-10-11 s p =
     (cond-gives (isTab (byteBefore s p)) _ _ (literal-gives s p First)
     (cond-gives (isSpace (byteBefore s p)) _ _ (literal-gives s p Further) (inr (inl refl))))))
 
--- a reading that is no literal: the end or a refusal
-abbrev pub NoLiteral : Reading → Type 0
-NoLiteral End = Unit {0}
-NoLiteral (Refused r) = Unit {0}
-NoLiteral (Literal l) = ⊥
-
 stays : (r : Reading) (p : ℕ) → NoLiteral r → placeAfter r p ≡ p
 unfolding placeAfter
 stays End p h = refl
@@ -223,11 +208,6 @@ stays (Literal l) p h = absurd h
 pub same-again : (s : List ℕ) (p : ℕ) → NoLiteral (readingAt s p) → nextAt s (nextAt s p .place) ≡ nextAt s p
 unfolding nextAt
 same-again s p h = ap (nextAt s) (stays (readingAt s p) p h)
-
--- the place that the reader has reached after so many readings from a place
-abbrev pub reached : List ℕ → ℕ → ℕ → ℕ
-reached s p zero = p
-reached s p (suc n) = reached s (nextAt s p .place) n
 
 reached-stays : (s : List ℕ) (n p : ℕ) → NoLiteral (readingAt s p) → reached s p n ≡ p
 unfolding nextAt

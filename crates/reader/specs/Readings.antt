@@ -1,7 +1,9 @@
 -- Document 01, "Rule sheet": what the reader says at a place of a sheet, and which place comes next.
 use mathlib.Core.List.{List}
+use mathlib.Core.Logic.{_⊎_}
+use mathlib.Core.Path.{_≡_}
 use mathlib.Core.Bool.{Bool, true, false, cond}
-use Prim.Native.Nat.{ℕ, _+_}
+use Prim.Native.Nat.{ℕ, zero, suc, _+_}
 use lib.Dec.{leb, eqb}
 use lib.ListN.{length, drop}
 use Rattle.refusal.specs.declared.Refusal.{Refusal}
@@ -62,3 +64,23 @@ placeAfter (Literal l) p = l .start + l .len + 1
 -- a reading, and the place that the reader has reached then
 unfoldable pub nextAt : List ℕ → ℕ → Next
 nextAt s p = record { reading = readingAt s p; place = placeAfter (readingAt s p) p }
+
+-- document 01: "The reader itself gives only 8, 10 and 11"
+abbrev pub ReadersNumber : ℕ → Type 0
+ReadersNumber n = (n ≡ 8) ⊎ ((n ≡ 10) ⊎ (n ≡ 11))
+
+abbrev pub GivesOnly : Reading → Type 0
+GivesOnly End = Unit {0}
+GivesOnly (Refused r) = ReadersNumber (r .number)
+GivesOnly (Literal l) = Unit {0}
+
+-- a reading that is no literal: the end or a refusal
+abbrev pub NoLiteral : Reading → Type 0
+NoLiteral End = Unit {0}
+NoLiteral (Refused r) = Unit {0}
+NoLiteral (Literal l) = ⊥
+
+-- the place that the reader has reached after so many readings from a place
+abbrev pub reached : List ℕ → ℕ → ℕ → ℕ
+reached s p zero = p
+reached s p (suc n) = reached s (nextAt s p .place) n

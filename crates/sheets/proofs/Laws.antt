@@ -7,12 +7,12 @@ use native.Mathlib.Omega.{arith}
 use lib.ListN.{length, drop}
 use Rattle.refusal.specs.declared.Refusal.{Refusal}
 use Rattle.refusal.specs.Numbers.{text-room-too-small}
-use Rattle.paper.specs.Rules.{Rule}
+use Rattle.paper.specs.Rules.{Rule, OneRulePerHead}
 use Rattle.paper.specs.Definitions.{Interpretation, Smallest}
 use Rattle.paper.specs.Marking.{Marks, Marking, Settled}
 use Rattle.paper.proofs.Smallest.{smallest-unique}
 use Rattle.words.specs.Layout.{wordsOf, rulesOf}
-use Rattle.words.proofs.Laws.{accepted-atoms}
+use Rattle.words.proofs.Laws.{accepted-atoms, accepted-one-rule}
 use Rattle.evaluation.proofs.Laws.{always-settles}
 use Rattle.sheetwords.specs.Sheets.{Sofar, Outcome, accepted, refused, sheetOutcome}
 use Rattle.sheetwords.specs.Buffers.{padded}
@@ -31,6 +31,11 @@ sheet-settles s wordRoom nameRoom x e A m =
     subst (λ (R : List Rule). Settled R A) (sheet-table-rules x)
     (always-settles N (wordsOf (x .rules)) N (no-fault N (wordsOf (x .rules)) N (le-refl N) table) A
     (subst (λ (R : List Rule). Marking R N A) (sym (sheet-table-rules x)) m))
+
+-- an accepted sheet has at most one rule per head
+pub sheet-one-rule : (s : List ℕ) (wordRoom nameRoom : ℕ) (x : Sofar) → sheetOutcome s wordRoom nameRoom ≡ accepted x → OneRulePerHead (x .rules)
+sheet-one-rule s wordRoom nameRoom x e =
+    subst OneRulePerHead (sheet-table-rules x) (accepted-one-rule (length (x .names)) (wordsOf (x .rules)) (sheet-table-accepted s wordRoom nameRoom x e))
 
 -- the words, names and value sheet of an accepted sheet
 same-sheet : (s : List ℕ) (wordRoom nameRoom : ℕ) (x y : Sofar) (I J : Interpretation) → sheetOutcome s wordRoom nameRoom ≡ accepted x

@@ -5,14 +5,16 @@ use mathlib.Core.List.{List, [], _∷_, List·Memᴰ·not-nil, List·Memᴰ·cas
 use mathlib.Core.Bool.{Bool}
 use Prim.Native.Nat.{ℕ, _*_, _≤_, _<_}
 use native.Mathlib.Nat.{le-refl}
+use native.Mathlib.Omega.{arith}
 use lib.Dec.{leb}
 use lib.ListN.{length}
 use borrow.Author.Tests.{leb-true, le-leb}
 use Rattle.paper.specs.Rules.{Rule, _∈_, OneRulePerHead, HeadsBelow}
+use Rattle.refusal.specs.declared.Refusal.{Refusal}
 use Rattle.refusal.specs.Numbers.{too-many-atoms, table-too-long}
 use Rattle.bits.specs.Sets.{_with_}
 use Rattle.words.specs.declared.Checked.{Checked}
-use Rattle.words.specs.declared.Checked.the-variants.{Accepted}
+use Rattle.words.specs.declared.Checked.the-variants.{Accepted, Refused}
 use Rattle.words.specs.declared.Due.the-variants.{Head}
 use Rattle.words.specs.Layout.{wordsOf, rulesOf}
 use Rattle.words.specs.Check.{asking, noHeads, walk, tableCheck, AcceptedTable}
@@ -88,6 +90,10 @@ accepted-literals N t a ρ β l m m′ m″ = accepted-within N t a .each-body �
 pub empty-accepted : (N : ℕ) → N ≤ 512 → AcceptedTable N []
 unfolding tableCheck walk
 empty-accepted N h = ap (λ (b : Bool). asking b too-many-atoms Accepted) (le-leb N 512 h)
+
+-- a refusal is no acceptance
+pub refused≢accepted : (f : Refusal) → Refused f ≡ Accepted → ⊥
+refused≢accepted f e = let z : _≡_ {A = ℕ} 0 1 = cc in omega arith
 
 -- two answers that the promise of the check allows are equal
 pub check-determined : (N : ℕ) (t : List ℕ) (r r′ : Checked) → r ≡ tableCheck N t → r′ ≡ tableCheck N t → r ≡ r′

@@ -195,7 +195,7 @@ pub fn print() {
     println!();
     println!("| names of | bytes | literals | engine | search | hash | engine / search | engine / hash | engine's lookup | search's lookup |");
     println!("|---:|---:|---:|---:|---:|---:|---:|---:|---:|---:|");
-    for length in [24, 7, 3] {
+    for length in [24, 23, 7, 3] {
         let (sheet, literals) = full_sheet(512, length);
         let (one_name, _) = full_sheet(1, length);
         let [engine, search, hash] = reading(&sheet[..sheet.len() - 1]);

@@ -1,11 +1,14 @@
 use borrow.Author.Needs.{needs}
-use mathlib.Core.Path.{sym, _∙_, subst}
+use mathlib.Core.List.{List}
+use mathlib.Core.Path.{sym, _∙_, subst⁻¹}
+use Prim.Native.Nat.{ℕ}
 use lib.Dec.{T, T-not}
 use native.Mathlib.Omega.{arith}
 use Rattle.paper.proofs.Tests.{true→T, false→not}
 use Rattle.bits.specs.Sets.{member}
 use Rattle.marking.proofs.Accepted.{pick-accepted, record-good}
 use Rattle.least.proofs.Marked.{accepted-records}
+use Rattle.picks.specs.declared.PickAnswer.{PickAnswer}
 use Rattle.picks.specs.Entries.{PickAllows}
 use borrow.Author.Needs.{needs}
 use Rattle.picks.proofs.mark_atom.Statement.{statement}
@@ -44,7 +47,7 @@ put-requires c κs = search needs
 
 returns-2 : tie.Need-returns-2
 returns-2 c =
-    rw (c .before .put .ensures) (PickAllows.marked (c .before .before .before .before .before .before .before .before .before .before .pre) (c .before .before .before .before .can-be-marked .ensures .0 (true→T _ (c .before .before .before .if2 .taken))))
+    subst⁻¹ (λ (m : List ℕ). PickAllows (record { n = c .before .before .before .before .before .before .before .before .before .before .args .n; marks = c .before .before .before .before .before .before .before .before .before .before .args .t2 }) (c .before .before .before .before .before .before .before .before .before .before .args .table .now) (c .before .before .before .before .before .before .before .before .before .before .args .atom) PickAnswer.Marked (record { n = c .before .before .before .before .before .before .before .before .before .before .args .n; marks = m })) (c .before .put .ensures) (PickAllows.marked (c .before .before .before .before .before .before .before .before .before .before .pre) (c .before .before .before .before .can-be-marked .ensures .0 (true→T _ (c .before .before .before .if2 .taken))))
 
 returns-3 : tie.Need-returns-3
 returns-3 c =

@@ -1,0 +1,298 @@
+-- The three demands, about what the public entries promise: in the demands' order, and nothing else. Each is proved by the room it cites. Assumes nothing.
+use mathlib.Core.Bool.{true, false}
+use mathlib.Core.List.{List, [], _++_}
+use mathlib.Core.Logic.{_↔_, _⊎_, ⊎-elim}
+use mathlib.Core.Path.{_≡_, sym}
+use Prim.Native.Nat.{ℕ, _+_, _≤_, _<_, _/_}
+use lib.Dec.{leb}
+use lib.ListN.{length, drop}
+use Rattle.refusal.specs.declared.Refusal.{Refusal}
+use Rattle.refusal.specs.Numbers.{too-many-atoms, not-settled, text-room-too-small, not-a-truth-code}
+use Rattle.paper.specs.Table1.{Value, code, _and_, _or_, not′, _implies_}
+use Rattle.paper.specs.Rules.{positive, _∈_}
+use Rattle.paper.specs.Definitions.{Interpretation, value, SmallestWellSupported}
+use Rattle.paper.specs.Marking.{Marked, Unmarked, CanBeMarked, Settled, IsHeld, settledValue, count, inconsistent}
+use Rattle.paper.proofs.Theorems.{smallest-by-test, smallest-exists}
+use Rattle.truth.specs.declared.Truth.{Truth}
+use Rattle.truth.specs.declared.Truth.the-variants.{Code, Refused as NoCode}
+use Rattle.truth.specs.Connectives.{conjunction, disjunction, negated, implied}
+use Rattle.truth.proofs.Laws as truth
+use Rattle.truth.proofs.Laws.{one-answer, and-is-table-1, or-is-table-1, not-is-table-1, implication-is-table-1, first-refused, second-refused}
+use Rattle.words.specs.declared.Checked.{Checked}
+use Rattle.words.specs.declared.Checked.the-variants.{Accepted, Refused}
+use Rattle.words.specs.Check.{tableCheck, AcceptedTable}
+use Rattle.words.specs.Layout.{rulesOf, wordsOf}
+use Rattle.words.proofs.Laws.{check-determined, accepted-one-rule}
+use Rattle.bits.specs.Sets.{putIn}
+use Rattle.marking.specs.Faults.{recordFault, pickFault, settledFault, reportFault}
+use Rattle.picks.specs.declared.MarkRecord.{MarkRecord}
+use Rattle.picks.specs.declared.FreshAnswer.{FreshAnswer}
+use Rattle.picks.specs.declared.PickAnswer.{PickAnswer}
+use Rattle.picks.specs.declared.SettledAnswer.{SettledAnswer}
+use Rattle.picks.specs.declared.ReportAnswer.{ReportAnswer}
+use Rattle.picks.specs.declared.CountAnswer.{CountAnswer}
+use Rattle.picks.specs.Entries.{marksOf, noMarksFor, withMarks, FreshAllows, PickAllows, SettledAllows, ReportAllows, CountAllows, written}
+use Rattle.picks.specs.Traces.{Picks, PickPasses}
+use Rattle.picks.proofs.Determined as picks
+use Rattle.picks.proofs.Demand3 as rooms
+use Rattle.evaluation.specs.declared.EvaluationAnswer.{EvaluationAnswer}
+use Rattle.evaluation.specs.Evaluation.{evaluationFault, EvaluationAllows}
+use Rattle.evaluation.proofs.Evaluated as evaluated
+use Rattle.evaluation.proofs.Laws.{evaluation-determined, evaluation-equals-report}
+use Rattle.reader.specs.declared.Next.{Next}
+use Rattle.reader.specs.Readings.{readingAt, nextAt, GivesOnly, NoLiteral, reached}
+use Rattle.reader.proofs.Laws as reader
+use Rattle.sheetwords.specs.Sheets.{Sofar, sheetOutcome}
+use Rattle.sheetwords.specs.Sheets as sheet
+use Rattle.sheetwords.specs.Buffers.{padded}
+use Rattle.sheetwords.proofs.Laws.{sheet-table-accepted, sheet-table-rules}
+use Rattle.sheets.specs.declared.SheetAnswer.{SheetAnswer}
+use Rattle.sheets.specs.SheetEntry.{sheetOf, counts, SheetAllows}
+use Rattle.sheets.proofs.Laws.{sheet-one-rule, sheet-determined}
+use Rattle.host.specs.Bytes.{wordsIn, loneByte}
+use Rattle.host.specs.Evaluation.{hostFault, packed, HostEvaluation}
+use Rattle.host.proofs.Determined.{host-accepted, host-determined}
+use Rattle.hostsheet.specs.SheetBytes.{HostSheet, wordsOver, namesOver}
+use Rattle.hostsheet.proofs.Determined.{host-sheet-determined}
+
+-- ---- Demand 1. Every entry's promise allows one outcome for all inputs: where the written order finds a fault, that refusal and buffers as they were.
+-- (That each entry takes all inputs and ends is what the prover checks of it: none has a requires.)
+
+-- and, or, not, implication: Table 1 over codes; a number above 3 is 20 at place 0
+pub connective-determined : {r r′ t : Truth} → r ≡ t → r′ ≡ t → r ≡ r′
+connective-determined e e′ = one-answer e e′
+
+pub and-value : (a b : Value) → conjunction (code a) (code b) ≡ Code (code (a and b))
+and-value = and-is-table-1
+
+pub or-value : (a b : Value) → disjunction (code a) (code b) ≡ Code (code (a or b))
+or-value = or-is-table-1
+
+pub not-value : (a : Value) → negated (code a) ≡ Code (code (not′ a))
+not-value = not-is-table-1
+
+pub implication-value : (a b : Value) → implied (code a) (code b) ≡ Code (code (a implies b))
+implication-value = implication-is-table-1
+
+pub and-refused : (v w : ℕ) → (3 < v) ⊎ (3 < w) → conjunction v w ≡ NoCode not-a-truth-code
+and-refused v w h = sym (⊎-elim (first-refused _and_ v w) (second-refused _and_ v w) h)
+
+pub or-refused : (v w : ℕ) → (3 < v) ⊎ (3 < w) → disjunction v w ≡ NoCode not-a-truth-code
+or-refused v w h = sym (⊎-elim (first-refused _or_ v w) (second-refused _or_ v w) h)
+
+pub not-refused : (v : ℕ) → 3 < v → negated v ≡ NoCode not-a-truth-code
+not-refused v h = sym (truth.not-refused v h)
+
+pub implication-refused : (v w : ℕ) → (3 < v) ⊎ (3 < w) → implied v w ≡ NoCode not-a-truth-code
+implication-refused v w h = sym (⊎-elim (first-refused _implies_ v w) (second-refused _implies_ v w) h)
+
+-- the word table check
+pub check-allows-one : (N : ℕ) (t : List ℕ) (r r′ : Checked) → r ≡ tableCheck N t → r′ ≡ tableCheck N t → r ≡ r′
+check-allows-one = check-determined
+
+-- fresh record: 1; a refused one has N 0 and no marks
+pub fresh-refused : (N : ℕ) {answer : FreshAnswer} {r : MarkRecord} → leb N 512 ≡ false → FreshAllows N answer r → (answer ≡ FreshAnswer.Refused too-many-atoms) × (r ≡ noMarksFor 0)
+fresh-refused N e o = picks.fresh-determined N o (FreshAllows.refused e)
+
+pub fresh-accepted : (N : ℕ) {answer : FreshAnswer} {r : MarkRecord} → leb N 512 ≡ true → FreshAllows N answer r → (answer ≡ FreshAnswer.Fresh) × (r ≡ noMarksFor N)
+fresh-accepted N e o = picks.fresh-determined N o (FreshAllows.fresh e)
+
+module _ (r : MarkRecord) (t : List ℕ) where
+  -- pick: 1, 17, 2, words, 16; a refusal alters nothing
+  pub pick-determined : (a : ℕ) {x y : PickAnswer} {r′ r″ : MarkRecord} → PickAllows r t a x r′ → PickAllows r t a y r″ → (x ≡ y) × (r′ ≡ r″)
+  pick-determined a o o′ = picks.pick-determined r t a o o′
+
+  pub pick-refused : (a : ℕ) {f : Refusal} {answer : PickAnswer} {r′ : MarkRecord} → pickFault (r .n) (marksOf r) t a ≡ Refused f → PickAllows r t a answer r′
+      → (answer ≡ PickAnswer.Refused f) × (r′ ≡ r)
+  pick-refused a e o = picks.pick-determined r t a o (PickAllows.refused e)
+
+  pub pick-marks : (a : ℕ) {answer : PickAnswer} {r′ : MarkRecord} → pickFault (r .n) (marksOf r) t a ≡ Accepted → CanBeMarked (rulesOf t) (marksOf r) a → PickAllows r t a answer r′
+      → (answer ≡ PickAnswer.Marked) × (r′ ≡ withMarks r (putIn (r .marks) a))
+  pick-marks a e c o = picks.pick-determined r t a o (PickAllows.marked e c)
+
+  pub pick-finds-it-marked : (a : ℕ) {answer : PickAnswer} {r′ : MarkRecord} → pickFault (r .n) (marksOf r) t a ≡ Accepted → Marked (marksOf r) a → PickAllows r t a answer r′
+      → (answer ≡ PickAnswer.AlreadyMarked) × (r′ ≡ r)
+  pick-finds-it-marked a e m o = picks.pick-determined r t a o (PickAllows.already-marked e m)
+
+  pub pick-leaves-it : (a : ℕ) {answer : PickAnswer} {r′ : MarkRecord} → pickFault (r .n) (marksOf r) t a ≡ Accepted → Unmarked (marksOf r) a
+      → (CanBeMarked (rulesOf t) (marksOf r) a → ⊥) → PickAllows r t a answer r′ → (answer ≡ PickAnswer.CannotBeMarkedNow) × (r′ ≡ r)
+  pick-leaves-it a e u n o = picks.pick-determined r t a o (PickAllows.cannot-be-marked-now e u n)
+
+  -- settled question: 1, 17, 2, words; it alters nothing
+  pub settled-determined : {x y : SettledAnswer} → SettledAllows r t x → SettledAllows r t y → x ≡ y
+  settled-determined o o′ = picks.settled-determined r t o o′
+
+  pub settled-refused : {f : Refusal} {answer : SettledAnswer} → settledFault (r .n) (marksOf r) t ≡ Refused f → SettledAllows r t answer → answer ≡ SettledAnswer.Refused f
+  settled-refused e o = picks.settled-determined r t o (SettledAllows.refused e)
+
+  pub settled-yes : {answer : SettledAnswer} → settledFault (r .n) (marksOf r) t ≡ Accepted → Settled (rulesOf t) (marksOf r) → SettledAllows r t answer → answer ≡ SettledAnswer.Yes
+  settled-yes e s o = picks.settled-determined r t o (SettledAllows.answers-yes e s)
+
+  pub settled-no : {answer : SettledAnswer} → settledFault (r .n) (marksOf r) t ≡ Accepted → (Settled (rulesOf t) (marksOf r) → ⊥) → SettledAllows r t answer → answer ≡ SettledAnswer.No
+  settled-no e n o = picks.settled-determined r t o (SettledAllows.answers-no e n)
+
+  -- report: 1, 17, 2, 3, words, 18; a refusal alters nothing
+  pub report-determined : (room : List ℕ) {x y : ReportAnswer} {room′ room″ : List ℕ} → ReportAllows r t room x room′ → ReportAllows r t room y room″ → (x ≡ y) × (room′ ≡ room″)
+  report-determined room o o′ = picks.report-determined r t room o o′
+
+  pub report-refused : (room : List ℕ) {f : Refusal} {answer : ReportAnswer} {room′ : List ℕ} → reportFault (r .n) (marksOf r) t (length room) ≡ Refused f
+      → ReportAllows r t room answer room′ → (answer ≡ ReportAnswer.Refused f) × (room′ ≡ room)
+  report-refused room e o = picks.report-determined r t room o (ReportAllows.refused e)
+
+  pub report-before-settled : (room : List ℕ) {answer : ReportAnswer} {room′ : List ℕ} → reportFault (r .n) (marksOf r) t (length room) ≡ Accepted
+      → (Settled (rulesOf t) (marksOf r) → ⊥) → ReportAllows r t room answer room′ → (answer ≡ ReportAnswer.Refused not-settled) × (room′ ≡ room)
+  report-before-settled room e n o = picks.report-determined r t room o (ReportAllows.before-settled e n)
+
+  pub report-of-any-marks : (room : List ℕ) {answer : ReportAnswer} {room′ : List ℕ} → reportFault (r .n) (marksOf r) t (length room) ≡ Accepted → Settled (rulesOf t) (marksOf r)
+      → (H : Interpretation) → IsHeld (rulesOf t) (marksOf r) H → ReportAllows r t room answer room′
+      → (answer ≡ ReportAnswer.Reported) × (room′ ≡ written (settledValue (marksOf r) H) (r .n) room)
+  report-of-any-marks room e s H h o = picks.report-determined r t room o (ReportAllows.reported e s H h)
+
+-- mark count: 1, 17; it alters nothing
+pub count-determined : (r : MarkRecord) {x y : CountAnswer} → CountAllows r x → CountAllows r y → x ≡ y
+count-determined r o o′ = picks.count-determined r o o′
+
+pub count-refused : (r : MarkRecord) {f : Refusal} {answer : CountAnswer} → recordFault (r .n) (marksOf r) ≡ Refused f → CountAllows r answer → answer ≡ CountAnswer.Refused f
+count-refused r e o = picks.count-determined r o (CountAllows.refused e)
+
+pub count-counts : (r : MarkRecord) {answer : CountAnswer} → recordFault (r .n) (marksOf r) ≡ Accepted → CountAllows r answer → answer ≡ CountAnswer.Marks (count 512 (marksOf r))
+count-counts r e o = picks.count-determined r o (CountAllows.counted e)
+
+-- evaluation: 1, 2, 3, words (and never 19); a refusal alters nothing
+pub evaluation-allows-one : (N : ℕ) (t room : List ℕ) {x y : EvaluationAnswer} {room′ room″ : List ℕ} → EvaluationAllows N t room x room′ → EvaluationAllows N t room y room″
+    → (x ≡ y) × (room′ ≡ room″)
+evaluation-allows-one N t room o o′ = evaluation-determined N t room o o′
+
+pub evaluation-refused : (N : ℕ) (t room : List ℕ) {f : Refusal} {answer : EvaluationAnswer} {room′ : List ℕ} → evaluationFault N t (length room) ≡ Refused f
+    → EvaluationAllows N t room answer room′ → (answer ≡ EvaluationAnswer.Refused f) × (room′ ≡ room)
+evaluation-refused N t room e o = evaluation-determined N t room o (EvaluationAllows.refused e)
+
+-- the host's evaluation: the same over bytes, then 4 for a lone last byte; 2^32 × number + place
+pub host-evaluation-determined : (N : ℕ) (bytes room : List ℕ) {x y : ℕ} {room′ room″ : List ℕ} → HostEvaluation N bytes room x room′ → HostEvaluation N bytes room y room″
+    → (x ≡ y) × (room′ ≡ room″)
+host-evaluation-determined N bytes room o o′ = host-determined N bytes room o o′
+
+pub host-evaluation-refused : (N : ℕ) (bytes room : List ℕ) {f : Refusal} {answer : ℕ} {room′ : List ℕ} → hostFault N (wordsIn bytes) (loneByte bytes) (length room) ≡ Refused f
+    → HostEvaluation N bytes room answer room′ → (answer ≡ packed f) × (room′ ≡ room)
+host-evaluation-refused N bytes room e o = host-determined N bytes room o (HostEvaluation.refused e)
+
+-- the sheet reader: only 8, 10 and 11, at every place; the same again after the end or a refusal; and it ends
+pub reader-determined : (s : List ℕ) (p : ℕ) (x y : Next) → x ≡ nextAt s p → y ≡ nextAt s p → x ≡ y
+reader-determined = reader.reading-determined
+
+pub reader-refuses : (s : List ℕ) (p : ℕ) → GivesOnly (readingAt s p)
+reader-refuses = reader.gives-only-8-10-11
+
+pub reader-same-again : (s : List ℕ) (p : ℕ) → NoLiteral (readingAt s p) → nextAt s (nextAt s p .place) ≡ nextAt s p
+reader-same-again = reader.same-again
+
+pub reader-ends : (s : List ℕ) → NoLiteral (readingAt s (reached s 0 (length s + 1)))
+reader-ends = reader.reader-ends
+
+module _ (s : List ℕ) (wordRoom nameRoom : ℕ) (text : List ℕ) where
+  -- the sheet entry: 8, 9, then the first literal with a fault (and never 19), last 15; a refusal leaves zeros in the buffers and the text as it was
+  pub sheet-allows-one : {x y : SheetAnswer} {ws ws′ ns ns′ text′ text″ : List ℕ} → SheetAllows s wordRoom nameRoom text x ws ns text′
+      → SheetAllows s wordRoom nameRoom text y ws′ ns′ text″ → (x ≡ y) × (ws ≡ ws′) × (ns ≡ ns′) × (text′ ≡ text″)
+  sheet-allows-one o o′ = sheet-determined s wordRoom nameRoom text o o′
+
+  pub sheet-refused : {f : Refusal} {answer : SheetAnswer} {ws ns text′ : List ℕ} → sheetOutcome s wordRoom nameRoom ≡ sheet.refused f
+      → SheetAllows s wordRoom nameRoom text answer ws ns text′
+      → (answer ≡ SheetAnswer.Refused f) × (ws ≡ padded wordRoom []) × (ns ≡ padded nameRoom []) × (text′ ≡ text)
+  sheet-refused e o = sheet-determined s wordRoom nameRoom text o (SheetAllows.refused e)
+
+-- the host's sheet entry: the same over bytes, surplus bytes as they were
+pub host-sheet-allows-one : (s words names text : List ℕ) {x y : ℕ} {ws ws′ ns ns′ text′ text″ : List ℕ} → HostSheet s words names text x ws ns text′
+    → HostSheet s words names text y ws′ ns′ text″ → (x ≡ y) × (ws ≡ ws′) × (ns ≡ ns′) × (text′ ≡ text″)
+host-sheet-allows-one s words names text o o′ = host-sheet-determined s words names text o o′
+
+pub host-sheet-refused : (s words names text : List ℕ) {f : Refusal} {answer : ℕ} {ws ns text′ : List ℕ} → sheetOutcome s (length words / 2) (length names / 4) ≡ sheet.refused f
+    → HostSheet s words names text answer ws ns text′
+    → (answer ≡ packed f) × (ws ≡ wordsOver (padded (length words / 2) []) words) × (ns ≡ namesOver (padded (length names / 4) []) names) × (text′ ≡ text)
+host-sheet-refused s words names text e o = host-sheet-determined s words names text o (HostSheet.answered (SheetAllows.refused e))
+
+-- ---- Demand 2. For an accepted table every atom's value is its value in the smallest well-supported model, by Definitions 5, 6, 8, 9 as printed.
+
+-- the model is there for every accepted table
+pub model-exists : (N : ℕ) (t : List ℕ) → AcceptedTable N t → (I : Interpretation) × SmallestWellSupported (rulesOf t) I
+model-exists N t accepted =
+    let one = accepted-one-rule N t accepted in
+    let m = smallest-exists (rulesOf t) one in
+    (m .0, smallest-by-test (rulesOf t) one (m .0) .0 (m .1))
+
+-- evaluation writes the codes of the values, and no byte past them
+pub evaluation-values : (N : ℕ) (t room : List ℕ) {answer : EvaluationAnswer} {room′ : List ℕ} → evaluationFault N t (length room) ≡ Accepted → EvaluationAllows N t room answer room′
+    → (I : Interpretation) → SmallestWellSupported (rulesOf t) I → (answer ≡ EvaluationAnswer.Evaluated) × (room′ ≡ written (λ a. value I (positive a)) N room)
+evaluation-values N t room e o I i =
+    let one = accepted-one-rule N t (evaluated.evaluation-accepted N t (length room) e .1) in
+    evaluation-determined N t room o (EvaluationAllows.evaluated e I (smallest-by-test (rulesOf t) one I .1 i))
+
+-- and so does the host's
+pub host-evaluation-values : (N : ℕ) (bytes room : List ℕ) {answer : ℕ} {room′ : List ℕ} → hostFault N (wordsIn bytes) (loneByte bytes) (length room) ≡ Accepted
+    → HostEvaluation N bytes room answer room′ → (I : Interpretation) → SmallestWellSupported (rulesOf (wordsIn bytes)) I → (answer ≡ 0) × (room′ ≡ written (λ a. value I (positive a)) N room)
+host-evaluation-values N bytes room e o I i =
+    let one = accepted-one-rule N (wordsIn bytes) (host-accepted N (wordsIn bytes) (loneByte bytes) (length room) e) in
+    host-determined N bytes room o (HostEvaluation.evaluated e I (smallest-by-test (rulesOf (wordsIn bytes)) one I .1 i))
+
+module _ (s : List ℕ) (wordRoom nameRoom : ℕ) (text : List ℕ) (x : Sofar) (read : sheetOutcome s wordRoom nameRoom ≡ sheet.accepted x) where
+  -- the words of an accepted sheet are an accepted table for its N, and its rules are that table's
+  pub sheet-is-a-table : AcceptedTable (length (x .names)) (wordsOf (x .rules)) × (rulesOf (wordsOf (x .rules)) ≡ x .rules)
+  sheet-is-a-table = (sheet-table-accepted s wordRoom nameRoom x read, sheet-table-rules x)
+
+  module _ (I : Interpretation) (smallest : SmallestWellSupported (x .rules) I) where
+    -- the value sheet by the written layout, with the values of the model ..
+    pub sheet-values : {answer : SheetAnswer} {ws ns text′ : List ℕ} → length (sheetOf s x I) ≤ length text → SheetAllows s wordRoom nameRoom text answer ws ns text′
+        → (answer ≡ counts s x I) × (ws ≡ padded wordRoom (wordsOf (x .rules))) × (ns ≡ padded nameRoom (x .names))
+        × (text′ ≡ sheetOf s x I ++ drop (length (sheetOf s x I)) text)
+    sheet-values h o = sheet-determined s wordRoom nameRoom text o (SheetAllows.accepted read (smallest-by-test (x .rules) (sheet-one-rule s wordRoom nameRoom x read) I .1 smallest) h)
+
+    -- .. or 15, where it does not fit
+    pub sheet-does-not-fit : {answer : SheetAnswer} {ws ns text′ : List ℕ} → length text < length (sheetOf s x I) → SheetAllows s wordRoom nameRoom text answer ws ns text′
+        → (answer ≡ SheetAnswer.Refused (text-room-too-small (length (sheetOf s x I)))) × (ws ≡ padded wordRoom []) × (ns ≡ padded nameRoom []) × (text′ ≡ text)
+    sheet-does-not-fit h o = sheet-determined s wordRoom nameRoom text o (SheetAllows.does-not-fit read (smallest-by-test (x .rules) (sheet-one-rule s wordRoom nameRoom x read) I .1 smallest) h)
+
+-- and so does the host's, over bytes
+pub host-sheet-values : (s words names text : List ℕ) (x : Sofar) → sheetOutcome s (length words / 2) (length names / 4) ≡ sheet.accepted x
+    → (I : Interpretation) → SmallestWellSupported (x .rules) I → {answer : ℕ} {ws ns text′ : List ℕ} → length (sheetOf s x I) ≤ length text → HostSheet s words names text answer ws ns text′
+    → (answer ≡ length (sheetOf s x I)) × (ws ≡ wordsOver (padded (length words / 2) (wordsOf (x .rules))) words)
+    × (ns ≡ namesOver (padded (length names / 4) (x .names)) names) × (text′ ≡ sheetOf s x I ++ drop (length (sheetOf s x I)) text)
+host-sheet-values s words names text x read I smallest h o =
+    let one = sheet-one-rule s (length words / 2) (length names / 4) x read in
+    host-sheet-determined s words names text o (HostSheet.answered (SheetAllows.accepted read (smallest-by-test (x .rules) one I .1 smallest) h))
+
+-- ---- Demand 3. The order of work never matters: one accepted table, a fresh record, every list of picks.
+
+-- each pick marks its own atom exactly when it may ..
+pub pick-marks-when-it-may : {r r′ : MarkRecord} {t : List ℕ} {a : ℕ} {answer : PickAnswer} → PickAllows r t a answer r′ → pickFault (r .n) (marksOf r) t a ≡ Accepted
+    → (answer ≡ PickAnswer.Marked) ↔ CanBeMarked (rulesOf t) (marksOf r) a
+pick-marks-when-it-may o e = rooms.marks-exactly-when-it-may o e
+
+-- .. and touches no other
+pub pick-touches-no-other : {r r′ : MarkRecord} {t : List ℕ} {a : ℕ} {answer : PickAnswer} → PickAllows r t a answer r′
+    → (r′ .n ≡ r .n) × ((b : ℕ) → (b ≡ a → ⊥) → marksOf r′ b ≡ marksOf r b)
+pick-touches-no-other o = rooms.only-its-own-atom o
+
+module _ (N : ℕ) (t : List ℕ) (accepted : AcceptedTable N t) {l : List ℕ} {r : MarkRecord} (picked : Picks t (noMarksFor N) l r) where
+  module _ (settled : Settled (rulesOf t) (marksOf r)) (I : Interpretation) (smallest : SmallestWellSupported (rulesOf t) I) where
+    -- when nothing can be marked the report is demand 2's values ..
+    pub report-is-the-values : (room : List ℕ) → N ≤ length room → {answer : ReportAnswer} {room′ : List ℕ} → ReportAllows r t room answer room′
+        → (answer ≡ ReportAnswer.Reported) × (room′ ≡ written (λ a. value I (positive a)) N room)
+    report-is-the-values room fits o =
+        rooms.report-after-picks N t accepted picked settled I (smallest-by-test (rulesOf t) (accepted-one-rule N t accepted) I .1 smallest) room fits o
+
+    -- .. and the marks are as many as the inconsistent atoms
+    pub count-is-the-inconsistent : {answer : CountAnswer} → CountAllows r answer → answer ≡ CountAnswer.Marks (count 512 (inconsistent I))
+    count-is-the-inconsistent o = rooms.count-after-picks N t accepted picked settled I (smallest-by-test (rulesOf t) (accepted-one-rule N t accepted) I .1 smallest) o
+
+  -- until then a pass over all atoms, in any order, marks at least one
+  pub pass-marks-at-least-one : (Settled (rulesOf t) (marksOf r) → ⊥) → (order : List ℕ) → ((a : ℕ) → a < N → a ∈ order) → {r′ : MarkRecord} → Picks t r order r′
+      → (a : ℕ) × CanBeMarked (rulesOf t) (marksOf r) a × Marked (marksOf r′) a
+  pass-marks-at-least-one n order all p = rooms.pass-marks-at-least-one N t accepted picked n order all p
+
+  -- and whole evaluation is that report
+  pub evaluation-is-the-report : (room : List ℕ) {answer : ReportAnswer} {x y : List ℕ} → EvaluationAllows N t room EvaluationAnswer.Evaluated x → Settled (rulesOf t) (marksOf r)
+      → ReportAllows r t room answer y → (answer ≡ ReportAnswer.Reported) × (x ≡ y)
+  evaluation-is-the-report room {x = x} {y = y} o s w = evaluation-equals-report N t room x y o picked s w
+
+-- so N passes settle
+pub n-passes-settle : (N : ℕ) (t : List ℕ) → AcceptedTable N t → {r : MarkRecord} → PickPasses t N N (noMarksFor N) r → Settled (rulesOf t) (marksOf r)
+n-passes-settle = rooms.n-passes-settle

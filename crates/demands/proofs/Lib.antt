@@ -1,0 +1,2 @@
+-- One page: the three demands, about the public entries.
+pub mod Demands
