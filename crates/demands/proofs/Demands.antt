@@ -51,8 +51,9 @@ use Rattle.sheets.specs.SheetEntry.{sheetOf, counts, SheetAllows}
 use Rattle.sheets.proofs.Laws.{sheet-one-rule, sheet-determined}
 use Rattle.host.specs.Bytes.{wordsIn, loneByte}
 use Rattle.host.specs.Evaluation.{hostFault, packed, HostEvaluation}
-use Rattle.host.proofs.Determined.{host-accepted, host-determined}
+use Rattle.host.proofs.Determined.{host-accepted, host-determined, host-answer-tells}
 use Rattle.hostsheet.specs.SheetBytes.{HostSheet, wordsOver, namesOver}
+use Rattle.hostsheet.proofs.Bounds.{answer-tells}
 use Rattle.hostsheet.proofs.Determined.{host-sheet-determined}
 
 -- ---- Demand 1. Every entry's promise allows one outcome for all inputs: where the written order finds a fault, that refusal and buffers as they were.
@@ -176,6 +177,11 @@ pub host-evaluation-refused : (N : ℕ) (bytes room : List ℕ) {f : Refusal} {a
     → HostEvaluation N bytes room answer room′ → (answer ≡ packed f) × (room′ ≡ room)
 host-evaluation-refused N bytes room e o = host-determined N bytes room o (HostEvaluation.refused e)
 
+-- so an answer of 0 is an acceptance, and one from 2^32 on a refusal
+pub host-evaluation-tells : (N : ℕ) (bytes room : List ℕ) {answer : ℕ} {room′ : List ℕ} → HostEvaluation N bytes room answer room′
+    → (answer ≡ 0) ⊎ ((f : Refusal) × (answer ≡ packed f) × (4294967296 ≤ answer))
+host-evaluation-tells = host-answer-tells
+
 -- the sheet reader: only 8, 10 and 11, at every place; the same again after the end or a refusal; and it ends
 pub reader-determined : (s : List ℕ) (p : ℕ) (x y : Next) → x ≡ nextAt s p → y ≡ nextAt s p → x ≡ y
 reader-determined = reader.reading-determined
@@ -209,6 +215,11 @@ pub host-sheet-refused : (s words names text : List ℕ) {f : Refusal} {answer :
     → HostSheet s words names text answer ws ns text′
     → (answer ≡ packed f) × (ws ≡ wordsOver (padded (length words / 2) []) words) × (ns ≡ namesOver (padded (length names / 4) []) names) × (text′ ≡ text)
 host-sheet-refused s words names text e o = host-sheet-determined s words names text o (HostSheet.answered (SheetAllows.refused e))
+
+-- so an answer below 2^32 is a value sheet's length, and one from there on a refusal
+pub host-sheet-tells : (s words names text : List ℕ) {answer : ℕ} {ws ns text′ : List ℕ} → HostSheet s words names text answer ws ns text′
+    → (answer < 4294967296) ⊎ ((f : Refusal) × (answer ≡ packed f) × (4294967296 ≤ answer))
+host-sheet-tells = answer-tells
 
 -- ---- Demand 2. For an accepted table every atom's value is its value in the smallest well-supported model, by Definitions 5, 6, 8, 9 as printed.
 

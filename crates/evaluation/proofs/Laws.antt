@@ -65,11 +65,11 @@ pub evaluation-within : (N : ℕ) (t : List ℕ) (room : ℕ) → Within (length
 unfolding evaluationFault
 evaluation-within N t room =
     orElse-within (length t) (tooManyAtoms N) (orElse (tableTooLong t) (orElse (roomTooSmall N room) (tableCheck N t)))
-    (asking-within (length t) (leb N 512) too-many-atoms Accepted (omega arith, omega arith) tt)
+    (asking-within (length t) (leb N 512) too-many-atoms Accepted (omega arith, omega arith, omega arith) tt)
     (orElse-within (length t) (tableTooLong t) (orElse (roomTooSmall N room) (tableCheck N t))
-    (asking-within (length t) (leb (length t) 8192) table-too-long Accepted (omega arith, omega arith) tt)
+    (asking-within (length t) (leb (length t) 8192) table-too-long Accepted (omega arith, omega arith, omega arith) tt)
     (orElse-within (length t) (roomTooSmall N room) (tableCheck N t)
-    (asking-within (length t) (leb N room) value-room-too-small Accepted (omega arith, omega arith) tt) (check-within N t)))
+    (asking-within (length t) (leb N room) value-room-too-small Accepted (omega arith, omega arith, omega arith) tt) (check-within N t)))
 
 -- whole evaluation equals the report after picks from a fresh record until settled, in any order
 pub evaluation-equals-report : (N : ℕ) (t room x y : List ℕ) {l : List ℕ} {r : MarkRecord} {answer : ReportAnswer} → EvaluationAllows N t room EvaluationAnswer.Evaluated x

@@ -1,14 +1,17 @@
 -- Two outcomes that the host's promise allows are equal. Assumes nothing.
 use mathlib.Core.Bool.{Bool, not}
 use mathlib.Core.List.{List}
-use mathlib.Core.Path.{_≡_, refl, sym, ap, _∙_}
-use Prim.Native.Nat.{ℕ}
+use mathlib.Core.Logic.{_⊎_, inl, inr}
+use mathlib.Core.Path.{_≡_, refl, sym, ap, _∙_, subst}
+use Prim.Native.Nat.{ℕ, _≤_}
+use native.Mathlib.Omega.{arith}
 use lib.ListN.{length}
 use Rattle.refusal.specs.declared.Refusal.{Refusal}
 use Rattle.refusal.specs.Numbers.{cut-short}
 use Rattle.words.specs.declared.Checked.the-variants.{Accepted, Refused}
-use Rattle.words.specs.Check.{asking, AcceptedTable}
+use Rattle.words.specs.Check.{asking, orElse, AcceptedTable}
 use Rattle.words.specs.Layout.{rulesOf}
+use Rattle.words.proofs.Bounds.{Within, asking-within, orElse-within}
 use Rattle.words.proofs.Steps.{orElse-accepted}
 use Rattle.words.proofs.Laws.{refused≢accepted}
 use Rattle.paper.specs.Rules.{positive}
@@ -17,7 +20,8 @@ use Rattle.paper.proofs.Smallest.{smallest-unique}
 use Rattle.picks.specs.Entries.{written}
 use Rattle.evaluation.specs.Evaluation.{evaluationFault}
 use Rattle.evaluation.proofs.Evaluated.{evaluation-accepted}
-use Rattle.host.specs.Bytes.{wordsIn}
+use Rattle.evaluation.proofs.Laws.{evaluation-within}
+use Rattle.host.specs.Bytes.{wordsIn, loneByte}
 use Rattle.host.specs.Evaluation.{hostFault, HostEvaluation, packed}
 
 -- where the host finds no fault the whole words are an accepted table
@@ -32,3 +36,20 @@ host-determined N bytes room (HostEvaluation.refused {f} e) (HostEvaluation.eval
 host-determined N bytes room (HostEvaluation.evaluated e I s) (HostEvaluation.refused {f} e′) = absurd (refused≢accepted f (sym e′ ∙ e))
 host-determined N bytes room (HostEvaluation.evaluated e I s) (HostEvaluation.evaluated e′ J s′) =
     (refl, ap (λ (K : Interpretation). written (λ a. value K (positive a)) N room) (smallest-unique (rulesOf (wordsIn bytes)) I J s s′))
+
+-- a refusal's answer is never 0: its number stands above the low half
+pub host-refusal-is-large : (N : ℕ) (t : List ℕ) (lone : Bool) (room : ℕ) (f : Refusal) → hostFault N t lone room ≡ Refused f → 4294967296 ≤ packed f
+unfolding hostFault
+host-refusal-is-large N t lone room f e =
+    let w : Within (length t) (orElse (evaluationFault N t room) (asking (not lone) (cut-short (length t)) Accepted)) =
+    orElse-within (length t) (evaluationFault N t room) (asking (not lone) (cut-short (length t)) Accepted) (evaluation-within N t room)
+    (asking-within (length t) (not lone) (cut-short (length t)) Accepted (omega arith, omega arith, omega arith) tt)
+    in
+    let k : Within (length t) (Refused f) = subst (Within (length t)) e w in
+    let some = k .2 in
+    omega arith
+
+pub host-answer-tells : (N : ℕ) (bytes room : List ℕ) {a : ℕ} {room′ : List ℕ} → HostEvaluation N bytes room a room′
+    → (a ≡ 0) ⊎ ((f : Refusal) × (a ≡ packed f) × (4294967296 ≤ a))
+host-answer-tells N bytes room (HostEvaluation.refused {f} e) = inr (f, refl, host-refusal-is-large N (wordsIn bytes) (loneByte bytes) (length room) f e)
+host-answer-tells N bytes room (HostEvaluation.evaluated e I s) = inl refl

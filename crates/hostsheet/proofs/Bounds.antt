@@ -1,8 +1,9 @@
 -- A refused sheet's number and place have room in the answer. Assumes nothing.
 use mathlib.Core.Bool.{Bool, true, false, not, cond, _&&_}
 use mathlib.Core.List.{List, [], _∷_}
+use mathlib.Core.Logic.{_⊎_, inl, inr}
 use mathlib.Core.Path.{_≡_, refl, subst}
-use Prim.Native.Nat.{ℕ, zero, suc, _+_, _*_, _≤_}
+use Prim.Native.Nat.{ℕ, zero, suc, _+_, _*_, _/_, _≤_, _<_}
 use native.Mathlib.Omega.{arith}
 use lib.Dec.{leb, eqb}
 use lib.ListN.{length, drop}
@@ -11,7 +12,7 @@ use Rattle.refusal.specs.declared.Refusal.{Refusal}
 use Rattle.refusal.specs.Numbers.{never-settled, text-room-too-small}
 use Rattle.paper.specs.Table1.{code}
 use Rattle.paper.specs.Rules.{positive}
-use Rattle.paper.specs.Definitions.{value}
+use Rattle.paper.specs.Definitions.{Interpretation, value}
 use Rattle.words.specs.declared.Checked.{Checked}
 use Rattle.words.specs.declared.Checked.the-variants.{Accepted, Refused as Faulty}
 use Rattle.words.proofs.Bounds.{Within, asking-within}
@@ -29,15 +30,15 @@ use Rattle.valuesheet.specs.ValueSheet.{hasLine, lineBytes, bytesFrom}
 use Rattle.valuesheet.proofs.Printing.{lines-length}
 use Rattle.sheets.specs.declared.SheetAnswer.{SheetAnswer}
 use Rattle.sheets.specs.SheetEntry.{SheetAllows, sheetOf}
-use Rattle.host.specs.Evaluation.{Packable}
-use Rattle.hostsheet.specs.SheetBytes.{HasRoom}
+use Rattle.host.specs.Evaluation.{packed, Packable}
+use Rattle.hostsheet.specs.SheetBytes.{HasRoom, HostSheet}
 
 -- no refusal's place is further than this: a name's 25th byte, just past the longest sheet
 abbrev furthest : ℕ
 furthest = 65561
 
 abbrev Small : Refusal → Type 0
-Small f = (f .number ≤ 18) × (f .place ≤ furthest)
+Small f = (f .number ≤ 18) × (f .place ≤ furthest) × (1 ≤ f .number)
 
 -- the reader's refusals
 abbrev SmallReading : Reading → Type 0
@@ -56,13 +57,13 @@ cond-small false x y h k = k
 ended-small : (s : List ℕ) (q n : ℕ) (negated : Bool) (role : Role) → q ≤ 65537 → SmallReading (endedName s q n negated role)
 unfolding endedName
 ended-small s q n negated role h =
-    asking-small (leb n 24) _ _ (omega arith, omega arith)
-    (λ e. asking-small (mayFollow role (byteAt s (q + n))) _ _ (omega arith, omega (arith, leb-true n 24 e)) (λ e′. tt))
+    asking-small (leb n 24) _ _ (omega arith, omega arith, omega arith)
+    (λ e. asking-small (mayFollow role (byteAt s (q + n))) _ _ (omega arith, omega (arith, leb-true n 24 e), omega arith) (λ e′. tt))
 
 name-small : (s : List ℕ) (q : ℕ) (negated : Bool) (role : Role) → q ≤ 65537 → SmallReading (nameAt s q negated role)
 unfolding nameAt
 name-small s q negated role h =
-    asking-small (startsName (byteAt s q)) _ _ (omega arith, omega arith) (λ e. ended-small s q (nameRun (drop q s)) negated role h)
+    asking-small (startsName (byteAt s q)) _ _ (omega arith, omega arith, omega arith) (λ e. ended-small s q (nameRun (drop q s)) negated role h)
 
 literal-small : (s : List ℕ) (p : ℕ) (role : Role) → p ≤ 65536 → SmallReading (literalAt s p role)
 unfolding literalAt
@@ -73,14 +74,14 @@ unfolding readingAfter lineAt
 after-small s p h =
     cond-small (isLineEnd (byteBefore s p)) _ _ (cond-small (eqb p (length s)) _ _ tt (literal-small s p Head h))
     (cond-small (isTab (byteBefore s p)) _ _ (literal-small s p First h)
-    (cond-small (isSpace (byteBefore s p)) _ _ (literal-small s p Further h) (omega arith, omega arith)))
+    (cond-small (isSpace (byteBefore s p)) _ _ (literal-small s p Further h) (omega arith, omega arith, omega arith)))
 
 reading-small : (s : List ℕ) (p : ℕ) → SmallReading (readingAt s p)
 unfolding readingAt
 reading-small s p =
-    asking-small (leb (length s) 65536) _ _ (omega arith, omega arith)
+    asking-small (leb (length s) 65536) _ _ (omega arith, omega arith, omega arith)
     (λ e. let short = leb-true (length s) 65536 e in
-    asking-small (leb p (length s)) _ _ (omega arith, omega arith)
+    asking-small (leb p (length s)) _ _ (omega arith, omega arith, omega arith)
     (λ e′. after-small s p (omega (arith, leb-true p (length s) e′))))
 
 -- the refusals of a sheet's literals
@@ -91,9 +92,9 @@ SmallOutcome (refused f) = Small f
 fault-small : (names : ℕ) (repeated : Bool) (body words p q : ℕ) → p ≤ furthest → q ≤ furthest → Within furthest (faultWith names repeated body words p q)
 unfolding faultWith
 fault-small names repeated body words p q h k =
-    asking-within furthest (leb names 512) _ _ (omega arith, k)
-    (asking-within furthest (not repeated) _ _ (omega arith, h)
-    (asking-within furthest (leb body 64) _ _ (omega arith, h) (asking-within furthest (leb words 8192) _ _ (omega arith, h) tt)))
+    asking-within furthest (leb names 512) _ _ (omega arith, k, omega arith)
+    (asking-within furthest (not repeated) _ _ (omega arith, h, omega arith)
+    (asking-within furthest (leb body 64) _ _ (omega arith, h, omega arith) (asking-within furthest (leb words 8192) _ _ (omega arith, h, omega arith) tt)))
 
 literal-fault-small : (s : List ℕ) (p : ℕ) (sofar : Sofar) (l : SheetLiteral) → p ≤ furthest → l .start ≤ furthest → Within furthest (literalFault s p sofar l)
 unfolding literalFault
@@ -126,8 +127,8 @@ demanding-small false f o h k = h
 outcome-small : (s : List ℕ) (wordRoom nameRoom : ℕ) → SmallOutcome (sheetOutcome s wordRoom nameRoom)
 unfolding sheetOutcome
 outcome-small s wordRoom nameRoom =
-    demanding-small (leb (length s) 65536) _ _ (omega arith, omega arith)
-    (demanding-small (leb 8192 wordRoom && leb 512 nameRoom) _ _ (omega arith, omega arith) (from-small (length s + 1) s 0 nothing))
+    demanding-small (leb (length s) 65536) _ _ (omega arith, omega arith, omega arith)
+    (demanding-small (leb 8192 wordRoom && leb 512 nameRoom) _ _ (omega arith, omega arith, omega arith) (from-small (length s + 1) s 0 nothing))
 
 -- a line has at most 34 bytes
 line-small : (shown : Bool) (e : ℕ) → lineBytes shown e ≤ 34
@@ -153,3 +154,33 @@ has-room s wordRoom nameRoom text (SheetAllows.does-not-fit {x} {I} e i h) g sam
     subst Packable is
     (record { number-small = omega arith; place-small = omega (arith, few, lines-length s (isHead (x .rules)) (λ a. code (value I (positive a))) 0 (x .names), lines-small (isHead (x .rules)) 0 (x .names)) })
 has-room s wordRoom nameRoom text (SheetAllows.accepted {x} {I} e i h) g same = absurd (let z : _≡_ {A = ℕ} 0 1 = cc in omega arith)
+
+-- the answer tells which it is: a refusal's has its number above the low half, a value sheet's length is below it
+pub refusal-is-large : (s : List ℕ) (wordRoom nameRoom : ℕ) (text : List ℕ) {r : SheetAnswer} {ws ns text′ : List ℕ} → SheetAllows s wordRoom nameRoom text r ws ns text′
+    → (g : Refusal) → r ≡ SheetAnswer.Refused g → 4294967296 ≤ packed g
+refusal-is-large s wordRoom nameRoom text (SheetAllows.refused {f} e) g same =
+    let small : Small f = subst SmallOutcome e (outcome-small s wordRoom nameRoom) in
+    let is : f ≡ g = cc in
+    let some = small .2 in
+    subst (λ (x : Refusal). 4294967296 ≤ packed x) is (omega arith)
+refusal-is-large s wordRoom nameRoom text (SheetAllows.never-settles e A m n) g same =
+    let is : never-settled ≡ g = cc in
+    subst (λ (x : Refusal). 4294967296 ≤ packed x) is (omega arith)
+refusal-is-large s wordRoom nameRoom text (SheetAllows.does-not-fit {x} {I} e i h) g same =
+    let is : text-room-too-small (length (sheetOf s x I)) ≡ g = cc in
+    subst (λ (y : Refusal). 4294967296 ≤ packed y) is (omega arith)
+refusal-is-large s wordRoom nameRoom text (SheetAllows.accepted {x} {I} e i h) g same = absurd (let z : _≡_ {A = ℕ} 0 1 = cc in omega arith)
+
+pub value-sheet-is-short : (s : List ℕ) (wordRoom nameRoom : ℕ) (x : Sofar) (I : Interpretation) → sheetOutcome s wordRoom nameRoom ≡ accepted x → length (sheetOf s x I) < 4294967296
+value-sheet-is-short s wordRoom nameRoom x I e =
+    let few = sheet-within s wordRoom nameRoom x e .at-most-512 in
+    omega (arith, few, lines-length s (isHead (x .rules)) (λ a. code (value I (positive a))) 0 (x .names), lines-small (isHead (x .rules)) 0 (x .names))
+
+-- so each answer is one or the other
+pub answer-tells : (s words names text : List ℕ) {a : ℕ} {ws ns text′ : List ℕ} → HostSheet s words names text a ws ns text′
+    → (a < 4294967296) ⊎ ((f : Refusal) × (a ≡ packed f) × (4294967296 ≤ a))
+answer-tells s words names text (HostSheet.answered (SheetAllows.refused {f} e)) =
+    inr (f, refl, refusal-is-large s (length words / 2) (length names / 4) text (SheetAllows.refused e) f refl)
+answer-tells s words names text (HostSheet.answered (SheetAllows.never-settles e A m n)) = inr (never-settled, refl, omega arith)
+answer-tells s words names text (HostSheet.answered (SheetAllows.does-not-fit {x} {I} e i h)) = inr (text-room-too-small (length (sheetOf s x I)), refl, omega arith)
+answer-tells s words names text (HostSheet.answered (SheetAllows.accepted {x} {I} e i h)) = inl (value-sheet-is-short s (length words / 2) (length names / 4) x I e)
