@@ -1,7 +1,7 @@
 -- Laws about one bit of a number.
 use mathlib.Core.Path.{_≡_, refl, sym, ap, ap₂, _∙_}
 use mathlib.Core.Logic.{_≢_}
-use mathlib.Core.Bool.{Bool, true, false, not, _||_}
+use mathlib.Core.Bool.{Bool, true, false, not, cond, _||_}
 use Prim.Native.Nat.{ℕ, zero, suc, _+_, _*_, _/_, _%_, _^_, _<_}
 use native.Mathlib.Nat.{zero-div, div-one, div-self, div-div-eq-div-mul, pow-succ', pow-suc, mul-mod-left, mul-div-cancel, zero-lt-suc, mod-lt, one-mul, not-suc-le-zero}
 use native.Mathlib.Omega.{arith}
@@ -11,9 +11,9 @@ use lib.Count.{ones, trailingZeros, under, ones-step}
 use lib.Pow.{pow-pos, shl-exact}
 use lib.Bits.{bitOr, bitXor, or-shr, or-mod, xor-shr, xor-mod}
 use borrow.Author.Tests.{eqb-true}
-use Rattle.bits.specs.Counting.{oneIf, countBelow}
+use Rattle.paper.specs.Marking.{count}
+use Rattle.paper.proofs.Counting.{count-≡, count-add}
 use Rattle.bits.specs.Sets.{bit}
-use Rattle.bits.proofs.Counting.{countBelow-ext, countBelow-first}
 
 two-pos : 0 < 2
 two-pos = zero-lt-suc 1
@@ -101,20 +101,22 @@ bit-xor a b j =
 pub one-shifted : (i : ℕ) → (1 * 2 ^ (i % 64)) % 2 ^ 64 ≡ 2 ^ (i % 64)
 one-shifted i = shl-exact 1 (i % 64) 64 (lit< tt) (omega arith) ∙ one-mul (2 ^ (i % 64))
 
-oneIf-digit : (x : ℕ) → x < 2 → oneIf (eqb x 1) ≡ x
-oneIf-digit zero h = refl
-oneIf-digit (suc zero) h = refl
-oneIf-digit (suc (suc x)) h = absurd (omega arith)
+digit-counted : (x : ℕ) → x < 2 → x ≡ cond (eqb x 1) 1 0
+digit-counted zero h = refl
+digit-counted (suc zero) h = refl
+digit-counted (suc (suc x)) h = absurd (omega arith)
 
 -- the ones of a number of k bits are its set bits
-pub ones-count : (k n : ℕ) → n < 2 ^ k → ones n ≡ countBelow k (bit n)
-unfolding ones countBelow
+pub ones-count : (k n : ℕ) → n < 2 ^ k → ones n ≡ count k (bit n)
+unfolding ones count
 ones-count zero n h = ap ones (lt-one h)
 ones-count (suc k) n h =
+    let next : (i : ℕ) → suc i ≡ 1 + i = λ i. omega arith in
     ones-step n
-    ∙ ap₂ _+_ (sym (ap oneIf (bit-first n) ∙ oneIf-digit (n % 2) (mod-lt n two-pos)))
-    (ones-count k (n / 2) (omega (arith, pow-suc 2 k)) ∙ countBelow-ext k (bit (n / 2)) (λ i. bit n (suc i)) (λ i l. sym (bit-next n i)))
-    ∙ sym (countBelow-first k (bit n))
+    ∙ ap₂ _+_ (digit-counted (n % 2) (mod-lt n two-pos) ∙ sym (ap (λ (b : Bool). cond b 1 0) (bit-first n)))
+    (ones-count k (n / 2) (omega (arith, pow-suc 2 k))
+    ∙ count-≡ k (bit (n / 2)) (λ i. bit n (1 + i)) (λ i l. sym (bit-next n i) ∙ ap (bit n) (next i)))
+    ∙ sym (ap (λ (x : ℕ). count x (bit n)) (next k) ∙ count-add 1 k (bit n))
 
 -- where the lowest one of a number stands
 pub record LowestBit (k n t : ℕ) : Type 0 where

@@ -4,7 +4,7 @@ use mathlib.Core.Logic.{_≢_}
 use mathlib.Core.List.{List}
 use mathlib.Core.Bool.{Bool, true, false, cond, _||_, or-true, or-false, true≢false}
 use Prim.Native.Nat.{ℕ, zero, suc, _+_, _*_, _/_, _%_, _^_, _-_, _<_, _≤_, zero-le}
-use native.Mathlib.Nat.{mod-lt, zero-lt-suc, mul-add}
+use native.Mathlib.Nat.{mod-lt, zero-lt-suc, mul-add, add-zero}
 use native.Mathlib.Decide.{ℕ-discrete, decLt}
 use native.Mathlib.Omega.{arith}
 use lib.Count.{ones, trailingZeros}
@@ -13,10 +13,11 @@ use lib.Bits.{bitOr, bitXor, or-lt, xor-lt}
 use lib.ListN.{length, getD, set, replicate, length-set, List·getD-eq-default}
 use lib.Seq.{getD-set-same, getD-set-other, set-out, ext-getD}
 use borrow.Author.Tests.{eq-eqb, ne-eqb}
+use Rattle.paper.specs.Marking.{count}
+use Rattle.paper.proofs.Counting.{count-≡, count-add, count-none}
+use Rattle.paper.proofs.Tests.{false→not}
 use Rattle.bits.specs.Sets.{bit, member, changed, putIn, takenOut, Words, _with_, _without_, lowestBelow}
 use Rattle.bits.specs.declared.Found.the-variants.{At}
-use Rattle.bits.specs.Counting.{countBelow}
-use Rattle.bits.proofs.Counting.{countBelow-ext, countBelow-add, countBelow-cut, countBelow-one-more}
 use Rattle.bits.proofs.Least.{lowestFrom-at}
 use Rattle.bits.proofs.Bit.{lowest-bit, ones-count}
 use Rattle.bits.proofs.Bit.{differs, differs-false, bit-of-zero, bit-or, bit-xor, bit-pow-same, bit-pow-other, same-bits}
@@ -197,32 +198,27 @@ member-of-zeros n i = ap (λ (w : ℕ). bit w (i % 64)) (zeros n (i / 64)) ∙ b
 
 -- the ones of a row's words count its members
 pub count-word : (s : List ℕ) (w : ℕ) → getD s w 0 < 2 ^ 64
-    → countBelow (64 * (w + 1)) (member s) ≡ countBelow (64 * w) (member s) + ones (getD s w 0)
+    → count (64 * (w + 1)) (member s) ≡ count (64 * w) (member s) + ones (getD s w 0)
 count-word s w h =
-    ap (λ (n : ℕ). countBelow n (member s)) (mul-add 64 w 1)
-    ∙ countBelow-add (64 * w) 64 (member s)
-    ∙ ap (λ (x : ℕ). countBelow (64 * w) (member s) + x)
-    (countBelow-ext 64 (λ i. member s (64 * w + i)) (bit (getD s w 0)) (member-in-word s w) ∙ sym (ones-count 64 (getD s w 0) h))
+    ap (λ (n : ℕ). count n (member s)) (mul-add 64 w 1)
+    ∙ count-add (64 * w) 64 (member s)
+    ∙ ap (λ (x : ℕ). count (64 * w) (member s) + x)
+    (count-≡ 64 (λ i. member s (64 * w + i)) (bit (getD s w 0)) (member-in-word s w) ∙ sym (ones-count 64 (getD s w 0) h))
 
 -- nothing past the last word is counted
-pub count-past : (s : List ℕ) (m : ℕ) → countBelow (64 * length s + m) (member s) ≡ countBelow (64 * length s) (member s)
-count-past s m = countBelow-cut (64 * length s) m (member s) (λ i h l. member-past s i h)
+pub count-past : (s : List ℕ) (m : ℕ) → count (64 * length s + m) (member s) ≡ count (64 * length s) (member s)
+count-past s m =
+    let n = 64 * length s in
+    count-add n m (member s)
+    ∙ ap (λ (x : ℕ). count n (member s) + x)
+    (count-none m (λ i. member s (n + i)) (λ i h. false→not (member s (n + i)) (member-past s (n + i) (omega arith))))
+    ∙ add-zero (count n (member s))
 
 -- in at most sixteen words every member is counted
-pub count-all : (s : List ℕ) → length s ≤ 16 → countBelow 1024 (member s) ≡ countBelow (64 * length s) (member s)
+pub count-all : (s : List ℕ) → length s ≤ 16 → count 1024 (member s) ≡ count (64 * length s) (member s)
 count-all s h =
     let room : 1024 ≡ 64 * length s + (1024 - 64 * length s) = omega arith in
-    ap (λ (n : ℕ). countBelow n (member s)) room ∙ count-past s (1024 - 64 * length s)
-
--- a number that joins a set makes one more
-pub count-with : (n i : ℕ) (p : ℕ → Bool) → i < n → p i ≡ false → countBelow n (p with i) ≡ countBelow n p + 1
-count-with n i p h e =
-    countBelow-one-more n i p (p with i) h e (ap (λ (b : Bool). cond b true (p i)) (eq-eqb i i refl))
-    (λ j l ne. ap (λ (b : Bool). cond b true (p j)) (ne-eqb j i ne))
-
-pub count-putIn : (n : ℕ) (s : List ℕ) (i : ℕ) → i < n → i < 64 * length s → member s i ≡ false
-    → countBelow n (member (putIn s i)) ≡ countBelow n (member s) + 1
-count-putIn n s i h l e = ap (countBelow n) (member-putIn s i l) ∙ count-with n i (member s) h e
+    ap (λ (n : ℕ). count n (member s)) room ∙ count-past s (1024 - 64 * length s)
 
 -- ---- the lowest member
 
@@ -255,8 +251,8 @@ lowest-in-word s n w room h ne below =
 
 -- ---- the turns of the two loops
 
-pub count-turn : (s : List ℕ) (w : ℕ) {n x : ℕ} → getD s w 0 < 2 ^ 64 → x ≡ getD s w 0 → n ≡ countBelow (64 * w) (member s)
-    → n + ones x ≡ countBelow (64 * (w + 1)) (member s)
+pub count-turn : (s : List ℕ) (w : ℕ) {n x : ℕ} → getD s w 0 < 2 ^ 64 → x ≡ getD s w 0 → n ≡ count (64 * w) (member s)
+    → n + ones x ≡ count (64 * (w + 1)) (member s)
 count-turn s w h e inv = ap₂ (λ (m y : ℕ). m + ones y) inv e ∙ sym (count-word s w h)
 
 pub lowest-turn : (s : List ℕ) (n w : ℕ) {x : ℕ} → 64 * (w + 1) ≤ n → getD s w 0 < 2 ^ 64 → x ≡ getD s w 0 → x ≢ 0

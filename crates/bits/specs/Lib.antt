@@ -1,3 +1,2 @@
 -- What a row of 64-bit words means as a set of numbers.
-pub mod Counting
 pub mod Sets

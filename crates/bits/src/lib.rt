@@ -1,7 +1,7 @@
 ghost use mathlib.Core.Path.{_≡_};
 ghost use lib.Bits.{bitXor};
 ghost use lib.ListN.{getD};
-ghost use Rattle.bits.specs.Counting.{countBelow};
+ghost use Rattle.paper.specs.Marking.{count};
 ghost use Rattle.bits.specs.Sets.{changed, member, putIn, takenOut, lowestBelow};
 
 // A member that was looked for.
@@ -60,7 +60,7 @@ fn word(set: &[u64], w: usize) -> u64
 
 // How many numbers below 1,024 are in the set.
 pub fn count(set: &[u64]) -> usize
-    ensures { λ r. ⌜ r ≡ countBelow 1024 (member (now (set .entry))) ⌝ }
+    ensures { λ r. ⌜ r ≡ count 1024 (member (now (set .entry))) ⌝ }
 {
     let mut n: usize = 0;
     let mut w: usize = 0;

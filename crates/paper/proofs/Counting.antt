@@ -1,8 +1,9 @@
 -- Counting the members of a set below N. Assumes nothing.
 use mathlib.Core.Bool.{Bool, true, false, not, cond}
 use mathlib.Core.Logic.{_⊎_, inl, inr, ⊎-elim}
-use mathlib.Core.Path.{_≡_, refl, subst, subst⁻¹, sym, ap, _∙_}
+use mathlib.Core.Path.{_≡_, refl, subst, subst⁻¹, ap, _∙_}
 use Prim.Native.Nat.{ℕ, zero, suc, _≤_, _<_, _+_}
+use native.Mathlib.Nat.{add-zero, add-suc}
 use native.Mathlib.Omega.{arith}
 use lib.Dec.{T, T-not, eqb, eqb→eq, eqb-refl}
 use Rattle.paper.specs.Marking.{count, mark, Marked, Unmarked}
@@ -29,6 +30,17 @@ pub count-none : (N : ℕ) (S : ℕ → Bool) → ((a : ℕ) → a < N → T (no
 unfolding count
 count-none zero S f = refl
 count-none (suc n) S f = rw (not→false (S n) (f n (omega arith))) (count-none n S (λ a h. f a (omega arith)))
+
+-- the members below N, and those among the m numbers from N on
+pub count-add : (N m : ℕ) (S : ℕ → Bool) → count (N + m) S ≡ count N S + count m (λ a. S (N + a))
+unfolding count
+count-add N zero S = omega (arith, ap (λ (x : ℕ). count x S) (add-zero N))
+count-add N (suc m) S = ap (λ (x : ℕ). count x S) (add-suc N m) ∙ go (S (N + m)) (count-add N m S)
+  where
+    go : (b : Bool) → count (N + m) S ≡ count N S + count m (λ a. S (N + a))
+        → cond b (suc (count (N + m) S)) (count (N + m) S) ≡ count N S + cond b (suc (count m (λ a. S (N + a)))) (count m (λ a. S (N + a)))
+    go true e = omega arith
+    go false e = e
 
 -- as many as there are: all
 pub count-full : (N : ℕ) (S : ℕ → Bool) → N ≤ count N S → (a : ℕ) → a < N → T (S a)

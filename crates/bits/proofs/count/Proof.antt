@@ -4,9 +4,9 @@ use native.Mathlib.Omega.{arith}
 use lib.Count.{ones, ones-le}
 use lib.ListN.{getD}
 use borrow.Author.Needs.{needs}
-use Rattle.bits.specs.Counting.{countBelow}
+use Rattle.paper.specs.Marking.{count}
+use Rattle.paper.proofs.Counting.{count≤}
 use Rattle.bits.specs.Sets.{member}
-use Rattle.bits.proofs.Counting.{countBelow-le}
 use Rattle.bits.proofs.Laws.{count-turn}
 use Rattle.bits.proofs.count.Statement.{statement}
 use Rattle.bits.proofs.count.Tie as tie
@@ -15,13 +15,13 @@ all-words : {w : ℕ} → w ≤ 16 → 16 ≤ w → w ≡ 16
 all-words h l = omega arith
 
 abbrev Inv-loop : tie.InvT-loop
-Inv-loop set n₀ w₀ n w = (w ≤ 16) × (n ≡ countBelow (64 * w) (member set))
+Inv-loop set n₀ w₀ n w = (w ≤ 16) × (n ≡ count (64 * w) (member set))
 
 abbrev μ-loop : tie.MeasureT-loop
 μ-loop set n₀ w₀ n w = 16 - w
 
 loop-holds : tie.Need-loop-holds Inv-loop μ-loop
-unfolding countBelow
+unfolding count
 loop-holds c = (zero-le, refl)
 
 word-requires : tie.Need-word-requires Inv-loop μ-loop
@@ -31,7 +31,7 @@ cast-n : tie.Need-cast-n Inv-loop μ-loop
 cast-n c = omega (arith, ones-le 64 (getD (c .before .before .before .before .args .set .now) (c .before .before .loop .w) 0) (c .before .before .before .shared-slice-known .given (c .before .before .loop .w) .fits), ap ones (c .word .ensures))
 
 add-n : tie.Need-add-n Inv-loop μ-loop
-add-n c = omega (arith, ones-le 64 (getD (c .before .before .before .before .args .set .now) (c .before .before .loop .w) 0) (c .before .before .before .shared-slice-known .given (c .before .before .loop .w) .fits), ap ones (c .word .ensures), countBelow-le (64 * c .before .before .loop .w) (member (c .before .before .before .before .args .set .now)))
+add-n c = omega (arith, ones-le 64 (getD (c .before .before .before .before .args .set .now) (c .before .before .loop .w) 0) (c .before .before .before .shared-slice-known .given (c .before .before .loop .w) .fits), ap ones (c .word .ensures), count≤ (64 * c .before .before .loop .w) (member (c .before .before .before .before .args .set .now)))
 
 add-w : tie.Need-add-w Inv-loop μ-loop
 add-w c = omega arith
@@ -48,7 +48,7 @@ loop-again c =
 returns : tie.Need-returns Inv-loop μ-loop
 returns c =
     let l = c .before .loop in
-    l .inv .1 ∙ ap (λ (x : ℕ). countBelow (64 * x) (member (c .before .before .before .args .set .now))) (all-words (l .inv .0) (c .loop-test .left))
+    l .inv .1 ∙ ap (λ (x : ℕ). count (64 * x) (member (c .before .before .before .args .set .now))) (all-words (l .inv .0) (c .loop-test .left))
 
 pub count-spec : {M : Type 1} → statement M
 count-spec =
