@@ -15,7 +15,7 @@ use Rattle.bits.proofs.Laws.{member-putIn, length-putIn}
 use Rattle.words.specs.Layout.{WholeGroups, takeGroups, dropGroups, wordsOf, rulesOf, bodyAt, groupsIn, bodyFrom, ruleAt, afterRecord}
 use Rattle.words.proofs.Places.{RecordAt, record-at, some-record}
 use Rattle.words.proofs.Reading.{takeGroups-groupsWords, dropGroups-groupsWords, length-takeGroups, whole-groups, rulesOf-wordsOf}
-use Rattle.least.specs.Walk.{BodyRead, DecidedHead}
+use Rattle.least.specs.Walk.{GroupsSkipped, BodyRead, FiresAt}
 use Rattle.least.specs.Passing.{skips, adds, stepped, passed, Decided, Records, Moved, Passed}
 
 -- no groups, told by their number
@@ -23,29 +23,17 @@ noGroups-is : (βs : List (List ℕ)) → noGroups βs ≡ eqb (length βs) 0
 noGroups-is [] = refl
 noGroups-is (β ∷ βs) = sym (lib.Dec.eqb·suc-zero (length βs))
 
-pub decided-head : (S : ℕ → Bool) (t : List ℕ) (at head m : ℕ) (skip fired fires′ adding : Bool) (next : ℕ) → m ≡ groupsIn t at
-    → WholeGroups (groupsIn t at) (bodyFrom t at) → fired ≡ (skip || eqb m 0) → BodyRead S t (bodyAt at) m fired fires′ next → adding ≡ (not skip && fires′)
-    → DecidedHead S t at head skip adding head next
-decided-head S t at head m skip fired fires′ adding next em w ef b ea =
+pub fires-there : (S : ℕ → Bool) (t : List ℕ) (at m : ℕ) (fact firing : Bool) (next : ℕ) → m ≡ groupsIn t at → WholeGroups (groupsIn t at) (bodyFrom t at) → fact ≡ eqb m 0
+    → BodyRead S t (bodyAt at) m fact firing next → FiresAt S t at firing next
+fires-there S t at m fact firing next em w ef b =
+    let groups : List (List ℕ) = takeGroups (groupsIn t at) (bodyFrom t at) in
+    let none : fact ≡ noGroups groups = ef ∙ ap (λ (n : ℕ). eqb n 0) (em ∙ sym (length-takeGroups (groupsIn t at) (bodyFrom t at) w)) ∙ sym (noGroups-is groups) in
     record {
-      head-is = refl;
-      adds-is = ea ∙ adding-is skip refl;
+      fires-is = b .fires-is ∙ ap₂ (λ (x : Bool) (n : ℕ). x || someWholly S (takeGroups n (bodyFrom t at))) none em;
       after = b .after ∙ ap (λ (n : ℕ). dropGroups n (bodyFrom t at)) em;
       inside = b .inside;
       further = b .not-before;
     }
-  where
-    groups : List (List ℕ)
-    groups = takeGroups (groupsIn t at) (bodyFrom t at)
-
-    facts : eqb m 0 ≡ noGroups groups
-    facts = ap (λ (n : ℕ). eqb n 0) (em ∙ sym (length-takeGroups (groupsIn t at) (bodyFrom t at) w)) ∙ sym (noGroups-is groups)
-
-    adding-is : (s : Bool) → skip ≡ s → (not skip && fires′) ≡ (not skip && fires S (ruleAt t at))
-    adding-is true e = rw e
-    adding-is false e =
-        let f : fired ≡ noGroups groups = ef ∙ ap (λ (x : Bool). x || eqb m 0) e ∙ facts in
-        rw e (b .fires-is ∙ ap₂ (λ (x : Bool) (n : ℕ). x || someWholly S (takeGroups n (bodyFrom t at))) f em)
 
 -- the record at a place, and the records after it
 pub record Here (t : List ℕ) (at : ℕ) : Type 0 where
@@ -130,15 +118,27 @@ moved-leaving A t at s adding head next lt r d ea =
       grew = λ e. absurd (mathlib.Core.Bool.false≢true e);
     }
 
-pub decided-at : (A : Marks) (S : ℕ → Bool) (t : List ℕ) (at head : ℕ) (skip adding : Bool) (head′ next : ℕ) → head ≡ getD t at 0 → skip ≡ skips A S head
-    → DecidedHead S t at head skip adding head′ next → Decided A S t at adding head′ next
-decided-at A S t at head skip adding head′ next eh es d =
+-- a skipped head is not added, and another is if its rule fires
+pub skipped-there : (A : Marks) (S : ℕ → Bool) (t : List ℕ) (at head : ℕ) (skip : Bool) (next : ℕ) → head ≡ getD t at 0 → skip ≡ skips A S head → skip ≡ true
+    → GroupsSkipped t (bodyAt at) (groupsIn t at) next → Decided A S t at false head next
+skipped-there A S t at head skip next eh es e g =
     record {
-      head-is = d .head-is ∙ eh;
-      adds-is = d .adds-is ∙ ap (λ (b : Bool). not b && fires S (ruleAt t at)) (es ∙ ap (skips A S) eh);
-      after = d .after;
-      inside = d .inside;
-      further = d .further;
+      head-is = eh;
+      adds-is = sym (ap (λ (b : Bool). not b && fires S (ruleAt t at)) (sym (ap (skips A S) eh) ∙ sym es ∙ e));
+      after = g .after;
+      inside = g .inside;
+      further = g .not-before;
+    }
+
+pub decided-there : (A : Marks) (S : ℕ → Bool) (t : List ℕ) (at head : ℕ) (skip firing : Bool) (next : ℕ) → head ≡ getD t at 0 → skip ≡ skips A S head → skip ≡ false
+    → FiresAt S t at firing next → Decided A S t at firing head next
+decided-there A S t at head skip firing next eh es e f =
+    record {
+      head-is = eh;
+      adds-is = f .fires-is ∙ sym (ap (λ (b : Bool). not b && fires S (ruleAt t at)) (sym (ap (skips A S) eh) ∙ sym es ∙ e));
+      after = f .after;
+      inside = f .inside;
+      further = f .further;
     }
 
 records-nothing : (t : List ℕ) (at : ℕ) → length t ≤ at → rulesOf (drop at t) ≡ []

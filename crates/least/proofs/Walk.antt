@@ -1,7 +1,7 @@
 -- Going through the groups of a table: one turn of each loop. Assumes nothing.
-use mathlib.Core.Bool.{Bool, true, false, not, _&&_, _||_, or-false}
+use mathlib.Core.Bool.{Bool, true, false, _&&_, _||_, or-false}
 use mathlib.Core.List.{List, [], _∷_}
-use mathlib.Core.Path.{_≡_, refl, sym, ap, ap₂, _∙_, subst}
+use mathlib.Core.Path.{_≡_, refl, sym, ap, ap₂, _∙_}
 use Prim.Native.Nat.{ℕ, zero, suc, _+_, _-_, _≤_, _<_}
 use native.Mathlib.Omega.{arith}
 use native.Mathlib.Numerals.{add-one}
@@ -10,7 +10,7 @@ use lib.Seq.{drop-cons, drop-drop}
 use Rattle.words.specs.Layout.{WholeGroups, takeGroups, dropGroups, literalsAt}
 use Rattle.words.proofs.Places.{word-at}
 use Rattle.paper.proofs.Closure.{wholly, someWholly}
-use Rattle.least.specs.Walk.{BodyRead}
+use Rattle.least.specs.Walk.{GroupsSkipped, BodyRead}
 
 -- the literal at i is looked at: the group holds if it is in the set and the rest holds
 wholly-cons : (S : ℕ → Bool) (t : List ℕ) (i k : ℕ) → i < length t
@@ -84,6 +84,12 @@ body-goes-on S t at (suc l) k fires fires′ h lt ek ef = go (drop at t) refl h
           fires-same = rw (less, d, e, f) (or-assoc fires (wholly S (take x ws)) (someWholly S (takeGroups l (drop x ws))));
           after-same = rw (less, d, e) refl;
         }
+
+pub groups-end : (t : List ℕ) (first m at left : ℕ) → left ≤ 0 → (at ≤ length t) × (first ≤ at) × (WholeGroups left (drop at t)) × (dropGroups left (drop at t) ≡ dropGroups m (drop first t))
+    → GroupsSkipped t first m at
+unfolding dropGroups
+groups-end t first m at zero h inv = record { after = inv .3; inside = inv .0; not-before = inv .1 }
+groups-end t first m at (suc l) h inv = absurd (omega arith)
 
 pub body-ends : (S : ℕ → Bool) (t : List ℕ) (first m : ℕ) (fired : Bool) (at left : ℕ) (fires : Bool) → left ≤ 0
     → (at ≤ length t) × (first ≤ at) × (WholeGroups left (drop at t))

@@ -1,12 +1,12 @@
 ghost use mathlib.Core.Path.{_≡_};
-ghost use mathlib.Core.Bool.{_||_, _&&_, not};
+ghost use mathlib.Core.Bool.{_||_};
 ghost use Prim.Native.Nat.{_+_, _/_, _≤_, _<_};
 ghost use lib.ListN.{length, getD, take, drop};
 ghost use Rattle.bits.specs.Sets.{member};
 ghost use Rattle.paper.proofs.Closure.{wholly, someWholly};
 ghost use lib.Dec.{eqb};
-ghost use Rattle.least.specs.Walk.{BodyRead, DecidedHead};
-ghost use Rattle.least.specs.Passing.{skips, Decided, Records, Moved, Passed, ClosedOver, WithMarked, withPair};
+ghost use Rattle.least.specs.Walk.{GroupsSkipped, BodyRead, FiresAt};
+ghost use Rattle.least.specs.Passing.{skips, Records, Moved, Passed, ClosedOver, WithMarked, withPair};
 ghost use Rattle.words.specs.Layout.{rulesOf, bodyAt, groupsIn, bodyFrom, WholeGroups};
 ghost use Rattle.paper.specs.Marking.{IsHeld, IsClean};
 
@@ -61,6 +61,21 @@ fn read_body(table: &[u16], set: &[u64], first: usize, m: usize, fired: bool) ->
     Body { fires, next: at }
 }
 
+// Where the `m` groups from `first` on end.
+fn skip_groups(table: &[u16], first: usize, m: usize) -> usize
+    requires { ⌜ (first ≤ length (now table)) × WholeGroups m (drop first (now table)) ⌝ }
+    ensures { λ r. ⌜ GroupsSkipped (now (table .entry)) first m r ⌝ }
+{
+    let mut at = first;
+    let mut left = m;
+    while 0 < left {
+        let k = words::word(table, at);
+        at = at + words::LITERALS + k;
+        left -= 1;
+    }
+    at
+}
+
 // A literal that is in the set already, or whose atom is marked.
 fn skips_head(set: &[u64], marks: &[u64], head: usize) -> bool
     ensures { λ r. ⌜ r ≡ skips (member (now (marks .entry))) (member (now (set .entry))) head ⌝ }
@@ -72,47 +87,29 @@ fn skips_head(set: &[u64], marks: &[u64], head: usize) -> bool
     }
 }
 
-// No group is looked at where the head is skipped or the rule is a fact.
-fn fired_already(skip: bool, m: usize) -> bool
-    ensures { λ r. ⌜ r ≡ (skip || eqb m 0) ⌝ }
+// A rule without groups is a fact.
+fn is_fact(m: usize) -> bool
+    ensures { λ r. ⌜ r ≡ eqb m 0 ⌝ }
 {
-    if skip { true } else { m == 0 }
+    m == 0
 }
 
-fn adds_head(skip: bool, fires: bool) -> bool
-    ensures { λ r. ⌜ r ≡ (not skip && fires) ⌝ }
-{
-    if skip { false } else { fires }
-}
-
-// Does the record at a place add its head, and where does the next one begin?
-pub struct Decision {
-    pub adds: bool,
-    pub head: usize,
-    pub next: usize,
-}
-
-fn decide(table: &[u16], set: &[u64], at: usize, head: usize, skip: bool) -> Decision
+// Does the rule of the record at `at` fire, and where does the next record begin?
+fn fires_at(table: &[u16], set: &[u64], at: usize) -> Body
     requires { ⌜ (bodyAt at ≤ length (now table)) × WholeGroups (groupsIn (now table) at) (bodyFrom (now table) at) ⌝ }
-    ensures { λ r. ⌜ DecidedHead (member (now (set .entry))) (now (table .entry)) at head skip (r .adds) (r .head) (r .next) ⌝ }
+    ensures { λ r. ⌜ FiresAt (member (now (set .entry))) (now (table .entry)) at (r .fires) (r .next) ⌝ }
 {
     let m = words::word(table, at + words::GROUPS);
-    let b = read_body(table, set, at + words::BODY, m, fired_already(skip, m));
-    let fires = b.fires;
-    let next = b.next;
-    Decision {
-        adds: adds_head(skip, fires),
-        head,
-        next,
-    }
+    read_body(table, set, at + words::BODY, m, is_fact(m))
 }
 
-fn decide_at(table: &[u16], set: &[u64], marks: &[u64], at: usize) -> Decision
+// Where the record after the one at `at` begins.
+fn skip_record(table: &[u16], at: usize) -> usize
     requires { ⌜ (bodyAt at ≤ length (now table)) × WholeGroups (groupsIn (now table) at) (bodyFrom (now table) at) ⌝ }
-    ensures { λ r. ⌜ Decided (member (now (marks .entry))) (member (now (set .entry))) (now (table .entry)) at (r .adds) (r .head) (r .next) ⌝ }
+    ensures { λ r. ⌜ GroupsSkipped (now (table .entry)) (bodyAt at) (groupsIn (now (table .entry)) at) r ⌝ }
 {
-    let head = words::word(table, at);
-    decide(table, set, at, head, skips_head(set, marks, head))
+    let m = words::word(table, at + words::GROUPS);
+    skip_groups(table, at + words::BODY, m)
 }
 
 // A record was passed.
@@ -126,11 +123,18 @@ fn pass_record(table: &[u16], set: &mut [u64], marks: &[u64], at: usize) -> Step
     ensures { λ r. ⌜ Moved (member (now (marks .entry))) (now (table .entry)) at (now (set .entry)) (r .next) (r .changed) (now (set .exit)) ⌝ }
     ensures { λ r. ⌜ at < r .next ⌝ }
 {
-    let d = decide_at(table, set, marks, at);
-    let adds = d.adds;
-    let head = d.head;
-    let next = d.next;
-    if adds {
+    let head = words::word(table, at);
+    if skips_head(set, marks, head) {
+        let next = skip_record(table, at);
+        return Step {
+            next,
+            changed: false,
+        };
+    }
+    let b = fires_at(table, set, at);
+    let fires = b.fires;
+    let next = b.next;
+    if fires {
         bits::put(set, head);
         Step {
             next,

@@ -1,40 +1,75 @@
 use borrow.Author.Needs.{needs}
-use mathlib.Core.Path.{sym, _∙_, _≡_, ap}
+use mathlib.Core.Path.{sym, _∙_, _≡_, ap, refl}
+use mathlib.Core.Bool.{false}
 use native.Mathlib.Omega.{arith}
 use Rattle.bits.specs.Sets.{member}
-use Rattle.least.specs.Passing.{Decided}
-use Rattle.least.proofs.Passing.{here, moved-adding, moved-leaving}
+use Rattle.least.proofs.Passing.{here, skipped-there, decided-there, moved-adding, moved-leaving}
 use borrow.Author.Needs.{needs}
 use Rattle.least.proofs.pass_record.Statement.{statement}
 use Rattle.least.proofs.pass_record.Tie as tie
 use Rattle.least.proofs.pass_record.Reads as reads
 use Rattle.least.proofs.pass_record.Lts as lts
 use Rattle.bits.proofs.put.Reads as put-reads
-use Rattle.least.proofs.decide_at.Reads as decide-at-reads
+use Rattle.least.proofs.fires_at.Reads as fires-at-reads
+use Rattle.least.proofs.skip_record.Reads as skip-record-reads
+use Rattle.least.proofs.skips_head.Reads as skips-head-reads
+use Rattle.words.proofs.word.Reads as word-reads
 
-decide-at-requires : tie.Need-decide-at-requires
-decide-at-requires c κs =
-    let h = here (c .before .before .before .before .args .table .now) (c .before .before .before .before .args .at) (c .before .before .before .before .pre .1) (c .before .before .before .before .pre .2) in
+word-requires : tie.Need-word-requires
+word-requires c κs = search needs
+
+skips-head-requires : tie.Need-skips-head-requires
+skips-head-requires c κs = search needs
+
+skip-record-requires : tie.Need-skip-record-requires
+skip-record-requires c κs =
+    let h = here (c .before .before .before .before .before .before .before .args .table .now) (c .before .before .before .before .before .before .before .args .at) (c .before .before .before .before .before .before .before .pre .1) (c .before .before .before .before .before .before .before .pre .2) in
     (h .inside, h .whole)
-
-put-requires : tie.Need-put-requires
-put-requires c κs = search needs
 
 same-length : tie.Need-same-length
 same-length c = search needs
 
 returns : tie.Need-returns
 returns c =
-    (moved-adding _ (c .before .before .before .before .before .before .before .before .before .before .args .table .now) (c .before .before .before .before .before .before .before .before .before .before .args .at) (c .before .before .before .before .before .before .before .before .before .before .args .set .now) (c .before .before .before .before .before .decide-at .result .adds) (c .before .before .before .before .before .decide-at .result .head) (c .before .before .before .before .before .decide-at .result .next) _ (c .before .before .before .before .before .before .before .before .before .before .pre .0) (c .before .before .before .before .before .before .before .before .before .before .pre .1) (c .before .before .before .before .before .before .before .before .before .before .pre .2) (c .before .before .before .before .before .decide-at .ensures) (c .before .before .before .before .if1 .taken) (c .before .before .put .ensures), omega (arith, c .before .before .before .before .before .decide-at .ensures .further))
+    let d = skipped-there (member (c .before .before .before .before .before .before .before .before .args .marks .now)) (member (c .before .before .before .before .before .before .before .before .args .set .now)) (c .before .before .before .before .before .before .before .before .args .table .now) (c .before .before .before .before .before .before .before .before .args .at) (c .before .before .before .before .word .result) (c .before .before .skips-head .result) (c .skip-record .result) (c .before .before .before .before .word .ensures .0) (c .before .before .skips-head .ensures) (c .before .if1 .taken) (c .skip-record .ensures) in
+    (moved-leaving (member (c .before .before .before .before .before .before .before .before .args .marks .now)) (c .before .before .before .before .before .before .before .before .args .table .now) (c .before .before .before .before .before .before .before .before .args .at) (c .before .before .before .before .before .before .before .before .args .set .now) false (c .before .before .before .before .word .result) (c .skip-record .result) (c .before .before .before .before .before .before .before .before .pre .1) (c .before .before .before .before .before .before .before .before .pre .2) d refl, omega (arith, d .further))
+
+fires-at-requires : tie.Need-fires-at-requires
+fires-at-requires c κs =
+    let h = here (c .before .before .before .before .before .before .before .before .args .table .now) (c .before .before .before .before .before .before .before .before .args .at) (c .before .before .before .before .before .before .before .before .pre .1) (c .before .before .before .before .before .before .before .before .pre .2) in
+    (h .inside, h .whole)
+
+put-requires : tie.Need-put-requires
+put-requires c κs = search needs
 
 same-length-2 : tie.Need-same-length-2
 same-length-2 c = search needs
 
 returns-2 : tie.Need-returns-2
 returns-2 c =
-    (moved-leaving _ (c .before .before .before .before .before .before .args .table .now) (c .before .before .before .before .before .before .args .at) (c .before .before .before .before .before .before .args .set .now) (c .before .decide-at .result .adds) (c .before .decide-at .result .head) (c .before .decide-at .result .next) (c .before .before .before .before .before .before .pre .1) (c .before .before .before .before .before .before .pre .2) (c .before .decide-at .ensures) (c .if1 .left), omega (arith, c .before .decide-at .ensures .further))
+    let d = decided-there (member (c .before .before .before .before .before .before .before .before .before .before .before .before .before .before .args .marks .now)) (member (c .before .before .before .before .before .before .before .before .before .before .before .before .before .before .args .set .now)) (c .before .before .before .before .before .before .before .before .before .before .before .before .before .before .args .table .now) (c .before .before .before .before .before .before .before .before .before .before .before .before .before .before .args .at) (c .before .before .before .before .before .before .before .before .before .before .word .result) (c .before .before .before .before .before .before .before .before .skips-head .result) (c .before .before .before .before .before .fires-at .result .fires) (c .before .before .before .before .before .fires-at .result .next) (c .before .before .before .before .before .before .before .before .before .before .word .ensures .0) (c .before .before .before .before .before .before .before .before .skips-head .ensures) (c .before .before .before .before .before .before .before .if1 .left) (c .before .before .before .before .before .fires-at .ensures) in
+    (moved-adding (member (c .before .before .before .before .before .before .before .before .before .before .before .before .before .before .args .marks .now)) (c .before .before .before .before .before .before .before .before .before .before .before .before .before .before .args .table .now) (c .before .before .before .before .before .before .before .before .before .before .before .before .before .before .args .at) (c .before .before .before .before .before .before .before .before .before .before .before .before .before .before .args .set .now) (c .before .before .before .before .before .fires-at .result .fires) (c .before .before .before .before .before .before .before .before .before .before .word .result) (c .before .before .before .before .before .fires-at .result .next) _ (c .before .before .before .before .before .before .before .before .before .before .before .before .before .before .pre .0) (c .before .before .before .before .before .before .before .before .before .before .before .before .before .before .pre .1) (c .before .before .before .before .before .before .before .before .before .before .before .before .before .before .pre .2) d (c .before .before .before .before .if2 .taken) (c .before .before .put .ensures), omega (arith, d .further))
+
+same-length-3 : tie.Need-same-length-3
+same-length-3 c = search needs
+
+returns-3 : tie.Need-returns-3
+returns-3 c =
+    let d = decided-there (member (c .before .before .before .before .before .before .before .before .before .before .args .marks .now)) (member (c .before .before .before .before .before .before .before .before .before .before .args .set .now)) (c .before .before .before .before .before .before .before .before .before .before .args .table .now) (c .before .before .before .before .before .before .before .before .before .before .args .at) (c .before .before .before .before .before .before .word .result) (c .before .before .before .before .skips-head .result) (c .before .fires-at .result .fires) (c .before .fires-at .result .next) (c .before .before .before .before .before .before .word .ensures .0) (c .before .before .before .before .skips-head .ensures) (c .before .before .before .if1 .left) (c .before .fires-at .ensures) in
+    (moved-leaving (member (c .before .before .before .before .before .before .before .before .before .before .args .marks .now)) (c .before .before .before .before .before .before .before .before .before .before .args .table .now) (c .before .before .before .before .before .before .before .before .before .before .args .at) (c .before .before .before .before .before .before .before .before .before .before .args .set .now) (c .before .fires-at .result .fires) (c .before .before .before .before .before .before .word .result) (c .before .fires-at .result .next) (c .before .before .before .before .before .before .before .before .before .before .pre .1) (c .before .before .before .before .before .before .before .before .before .before .pre .2) d (c .if2 .left), omega (arith, d .further))
 
 pub pass-record-spec : {M : Type 1} → statement M
 pass-record-spec =
     tie.close
-    (tie.spec decide-at-requires put-requires same-length returns same-length-2 returns-2)
+    (tie.spec
+    word-requires
+    skips-head-requires
+    skip-record-requires
+    same-length
+    returns
+    fires-at-requires
+    put-requires
+    same-length-2
+    returns-2
+    same-length-3
+    returns-3)
