@@ -121,37 +121,40 @@ filled-stays (accepted sofar) r ws ns heads n w room room′ by e h h′ = recor
   words-are = by .words-are sofar refl ∙ ap (λ (x : ℕ). padded x (wordsOf (sofar .rules))) h;
   names-are = by .names-are sofar refl ∙ ap (λ (x : ℕ). padded x (sofar .names)) h′;
   heads-are = by .heads-are;
+  heads-empty = λ x f. absurd (accepted-is-not-refused sofar x f);
 }
 filled-stays (refused x) r ws ns heads n w room room′ by e h h′ = absurd (read-is-not-refused n w x (sym e ∙ by .answer))
 
-pub nothing-stays : (o : Outcome) (r : Filled) (ws ns heads ws′ ns′ : List ℕ) (x : Refusal) (room room′ : ℕ) → FilledBy o r ws ns heads → r ≡ NotRead x
-    → ws′ ≡ padded room [] → ns′ ≡ padded room′ [] → ReadInto o room room′ (NotRead x) ws′ ns′ heads
-nothing-stays (accepted sofar) r ws ns heads ws′ ns′ x room room′ by e h h′ = absurd (read-is-not-refused _ _ x (sym (by .answer) ∙ e))
-nothing-stays (refused y) r ws ns heads ws′ ns′ x room room′ by e h h′ =
-    record { answer = sym e ∙ by .answer; words-are = h; names-are = h′; heads-are = by .heads-are }
+pub nothing-stays : (o : Outcome) (r : Filled) (ws ns heads ws′ ns′ heads′ : List ℕ) (x : Refusal) (room room′ : ℕ) → FilledBy o r ws ns heads → r ≡ NotRead x
+    → ws′ ≡ padded room [] → ns′ ≡ padded room′ [] → heads′ ≡ padded 16 [] → ReadInto o room room′ (NotRead x) ws′ ns′ heads′
+unfolding padded
+nothing-stays (accepted sofar) r ws ns heads ws′ ns′ heads′ x room room′ by e h h′ h″ = absurd (read-is-not-refused _ _ x (sym (by .answer) ∙ e))
+nothing-stays (refused y) r ws ns heads ws′ ns′ heads′ x room room′ by e h h′ h″ =
+    record { answer = sym e ∙ by .answer; words-are = h; names-are = h′; heads-are = λ z f. absurd (accepted-is-not-refused z y (sym f)); heads-empty = λ z f. h″ }
 
 -- 8 and 9
 refused-into : (x : Refusal) (room room′ : ℕ) (ws ns heads : List ℕ) (o : Outcome) → o ≡ refused x → ws ≡ padded room [] → ns ≡ padded room′ []
-    → ReadInto o room room′ (NotRead x) ws ns heads
-refused-into x room room′ ws ns heads o e h h′ = record {
+    → heads ≡ replicate 16 0 → ReadInto o room room′ (NotRead x) ws ns heads
+refused-into x room room′ ws ns heads o e h h′ h″ = record {
   answer = ap answerOf (sym e);
   words-are = h ∙ ap (λ (y : Outcome). padded room (wordsIn y)) (sym e);
   names-are = h′ ∙ ap (λ (y : Outcome). padded room′ (namesIn y)) (sym e);
   heads-are = λ y f. absurd (accepted-is-not-refused y x (sym f ∙ e));
+  heads-empty = λ y f. h″;
 }
 
 module _ (s : List ℕ) (room room′ : ℕ) (ws ns heads : List ℕ) where
-  pub long-sheet : 65536 < length s → ws ≡ padded room [] → ns ≡ padded room′ [] → ReadInto (sheetOutcome s room room′) room room′ (NotRead sheet-too-long) ws ns heads
+  pub long-sheet : 65536 < length s → ws ≡ padded room [] → ns ≡ padded room′ [] → heads ≡ replicate 16 0 → ReadInto (sheetOutcome s room room′) room room′ (NotRead sheet-too-long) ws ns heads
   unfolding sheetOutcome
   long-sheet h = refused-into sheet-too-long room room′ ws ns heads _
       (ap (λ (b : Bool). demanding b sheet-too-long (demanding (leb 8192 room && leb 512 room′) buffer-too-small (sheetFrom (length s + 1) s 0 nothing))) (lt-leb (length s) 65536 h))
 
-  pub short-words : length s ≤ 65536 → room < 8192 → ws ≡ padded room [] → ns ≡ padded room′ [] → ReadInto (sheetOutcome s room room′) room room′ (NotRead buffer-too-small) ws ns heads
+  pub short-words : length s ≤ 65536 → room < 8192 → ws ≡ padded room [] → ns ≡ padded room′ [] → heads ≡ replicate 16 0 → ReadInto (sheetOutcome s room room′) room room′ (NotRead buffer-too-small) ws ns heads
   unfolding sheetOutcome
   short-words h h′ = refused-into buffer-too-small room room′ ws ns heads _
       (ap₂ (λ (b b′ : Bool). demanding b sheet-too-long (demanding (b′ && leb 512 room′) buffer-too-small (sheetFrom (length s + 1) s 0 nothing))) (le-leb (length s) 65536 h) (lt-leb 8192 room h′))
 
-  pub short-names : length s ≤ 65536 → room′ < 512 → ws ≡ padded room [] → ns ≡ padded room′ [] → ReadInto (sheetOutcome s room room′) room room′ (NotRead buffer-too-small) ws ns heads
+  pub short-names : length s ≤ 65536 → room′ < 512 → ws ≡ padded room [] → ns ≡ padded room′ [] → heads ≡ replicate 16 0 → ReadInto (sheetOutcome s room room′) room room′ (NotRead buffer-too-small) ws ns heads
   unfolding sheetOutcome
   short-names h h′ = refused-into buffer-too-small room room′ ws ns heads _
       (ap₂ (λ (b b′ : Bool). demanding b sheet-too-long (demanding b′ buffer-too-small (sheetFrom (length s + 1) s 0 nothing))) (le-leb (length s) 65536 h)

@@ -114,9 +114,10 @@ pub record FilledBy (o : Outcome) (r : Filled) (ws ns heads : List ℕ) : Type 0
   pub names-are : (sofar : Sofar) → o ≡ accepted sofar → ns ≡ padded (length ns) (sofar .names)
   pub heads-are : (sofar : Sofar) → o ≡ accepted sofar → (j : ℕ) → member heads j ≡ isHead (sofar .rules) j
 
--- a sheet has been read into buffers of so many entries: the answer, every word, every name entry, and the heads of an accepted sheet
+-- a sheet has been read into buffers of so many entries: the answer, every word, every name entry, and the heads of an accepted sheet, none of a refused one
 pub record ReadInto (o : Outcome) (wordRoom nameRoom : ℕ) (r : Filled) (ws ns heads : List ℕ) : Type 0 where
   pub answer : r ≡ answerOf o
   pub words-are : ws ≡ padded wordRoom (wordsIn o)
   pub names-are : ns ≡ padded nameRoom (namesIn o)
   pub heads-are : (sofar : Sofar) → o ≡ accepted sofar → (j : ℕ) → member heads j ≡ isHead (sofar .rules) j
+  pub heads-empty : (x : Refusal) → o ≡ refused x → heads ≡ replicate 16 0

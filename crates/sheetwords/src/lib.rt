@@ -347,6 +347,17 @@ pub fn clear_names(names: &mut [u32])
     }
 }
 
+// No head is flagged.
+fn clear_heads(heads: &mut [u64])
+    ensures { λ _. ⌜ now (heads .exit) ≡ padded (length (now (heads .entry))) [] ⌝ }
+{
+    let mut i: usize = 0;
+    while i < heads.len() {
+        heads[i] = 0;
+        i += 1;
+    }
+}
+
 // Fills empty buffers, and leaves them empty where the sheet is refused.
 fn fill_or_clear(sheet: &[u8], words: &mut [u16], names: &mut [u32], heads: &mut [u64]) -> Filled
     requires { ⌜ 8192 ≤ length (now words) ⌝ }
@@ -362,6 +373,7 @@ fn fill_or_clear(sheet: &[u8], words: &mut [u16], names: &mut [u32], heads: &mut
         Filled::Refused(r) => {
             clear_words(words);
             clear_names(names);
+            clear_heads(heads);
             Filled::Refused(r)
         }
     }

@@ -22,7 +22,7 @@ same-length-2 c = search needs
 
 returns : tie.Need-returns
 returns c =
-    long-sheet (c .before .before .before .before .before .before .before .before .before .before .before .before .before .args .sheet .now) _ _ _ _ _ (c .if1 .taken) (c .before .before .before .before .before .before .before .clear-words .ensures) (c .before .before .before .clear-names .ensures)
+    long-sheet (c .before .before .before .before .before .before .before .before .before .before .before .before .before .args .sheet .now) _ _ _ _ _ (c .if1 .taken) (c .before .before .before .before .before .before .before .clear-words .ensures) (c .before .before .before .clear-names .ensures) (c .before .before .before .before .before .before .before .before .before .before .before .before .before .pre)
 
 same-length-3 : tie.Need-same-length-3
 same-length-3 c = search needs
@@ -32,7 +32,7 @@ same-length-4 c = search needs
 
 returns-2 : tie.Need-returns-2
 returns-2 c =
-    short-words (c .before .before .before .before .before .before .before .before .before .before .before .before .before .before .args .sheet .now) _ _ _ _ _ (c .before .if1 .left) (omega (arith, c .if2 .taken, c .before .before .before .before .before .before .before .before .clear-words .kept .0)) (c .before .before .before .before .before .before .before .before .clear-words .ensures) (c .before .before .before .before .clear-names .ensures)
+    short-words (c .before .before .before .before .before .before .before .before .before .before .before .before .before .before .args .sheet .now) _ _ _ _ _ (c .before .if1 .left) (omega (arith, c .if2 .taken, c .before .before .before .before .before .before .before .before .clear-words .kept .0)) (c .before .before .before .before .before .before .before .before .clear-words .ensures) (c .before .before .before .before .clear-names .ensures) (c .before .before .before .before .before .before .before .before .before .before .before .before .before .before .pre)
 
 same-length-5 : tie.Need-same-length-5
 same-length-5 c = search needs
@@ -42,7 +42,7 @@ same-length-6 c = search needs
 
 returns-3 : tie.Need-returns-3
 returns-3 c =
-    short-names (c .before .before .before .before .before .before .before .before .before .before .before .before .before .before .before .args .sheet .now) _ _ _ _ _ (c .before .before .if1 .left) (omega (arith, c .if3 .taken, c .before .before .before .before .before .clear-names .kept .0)) (c .before .before .before .before .before .before .before .before .before .clear-words .ensures) (c .before .before .before .before .before .clear-names .ensures)
+    short-names (c .before .before .before .before .before .before .before .before .before .before .before .before .before .before .before .args .sheet .now) _ _ _ _ _ (c .before .before .if1 .left) (omega (arith, c .if3 .taken, c .before .before .before .before .before .clear-names .kept .0)) (c .before .before .before .before .before .before .before .before .before .clear-words .ensures) (c .before .before .before .before .before .clear-names .ensures) (c .before .before .before .before .before .before .before .before .before .before .before .before .before .before .before .pre)
 
 fill-or-clear-requires : tie.Need-fill-or-clear-requires
 fill-or-clear-requires c κs =
