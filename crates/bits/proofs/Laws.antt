@@ -4,7 +4,7 @@ use mathlib.Core.Logic.{_≢_}
 use mathlib.Core.List.{List}
 use mathlib.Core.Bool.{Bool, true, false, cond, _||_, or-true, or-false, true≢false}
 use Prim.Native.Nat.{ℕ, zero, suc, _+_, _*_, _/_, _%_, _^_, _-_, _<_, _≤_, zero-le}
-use native.Mathlib.Nat.{mod-lt, zero-lt-suc, mul-add, add-zero}
+use native.Mathlib.Nat.{mod-lt, zero-lt-suc, mul-add}
 use native.Mathlib.Decide.{ℕ-discrete, decLt}
 use native.Mathlib.Omega.{arith}
 use lib.Count.{ones, trailingZeros}
@@ -14,8 +14,7 @@ use lib.ListN.{length, getD, set, replicate, length-set, List·getD-eq-default}
 use lib.Seq.{getD-set-same, getD-set-other, set-out, ext-getD}
 use borrow.Author.Tests.{eq-eqb, ne-eqb}
 use Rattle.paper.specs.Marking.{count}
-use Rattle.paper.proofs.Counting.{count-≡, count-add, count-none}
-use Rattle.paper.proofs.Tests.{false→not}
+use Rattle.paper.proofs.Counting.{count-≡, count-add}
 use Rattle.bits.specs.Sets.{bit, member, changed, putIn, takenOut, Words, _with_, _without_, lowestBelow}
 use Rattle.bits.specs.declared.Found.the-variants.{At}
 use Rattle.bits.proofs.Least.{lowestFrom-at}
@@ -204,21 +203,6 @@ count-word s w h =
     ∙ count-add (64 * w) 64 (member s)
     ∙ ap (λ (x : ℕ). count (64 * w) (member s) + x)
     (count-≡ 64 (λ i. member s (64 * w + i)) (bit (getD s w 0)) (member-in-word s w) ∙ sym (ones-count 64 (getD s w 0) h))
-
--- nothing past the last word is counted
-pub count-past : (s : List ℕ) (m : ℕ) → count (64 * length s + m) (member s) ≡ count (64 * length s) (member s)
-count-past s m =
-    let n = 64 * length s in
-    count-add n m (member s)
-    ∙ ap (λ (x : ℕ). count n (member s) + x)
-    (count-none m (λ i. member s (n + i)) (λ i h. false→not (member s (n + i)) (member-past s (n + i) (omega arith))))
-    ∙ add-zero (count n (member s))
-
--- in at most sixteen words every member is counted
-pub count-all : (s : List ℕ) → length s ≤ 16 → count 1024 (member s) ≡ count (64 * length s) (member s)
-count-all s h =
-    let room : 1024 ≡ 64 * length s + (1024 - 64 * length s) = omega arith in
-    ap (λ (n : ℕ). count n (member s)) room ∙ count-past s (1024 - 64 * length s)
 
 -- ---- the lowest member
 

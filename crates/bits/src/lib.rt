@@ -58,13 +58,13 @@ fn word(set: &[u64], w: usize) -> u64
     if w < set.len() { set[w] } else { 0 }
 }
 
-// How many numbers below 1,024 are in the set.
+// How many numbers below 512 are in the set.
 pub fn count(set: &[u64]) -> usize
-    ensures { λ r. ⌜ r ≡ count 1024 (member (now (set .entry))) ⌝ }
+    ensures { λ r. ⌜ r ≡ count 512 (member (now (set .entry))) ⌝ }
 {
     let mut n: usize = 0;
     let mut w: usize = 0;
-    while w < 16 {
+    while w < 8 {
         n += u64::count_ones(word(set, w)) as usize;
         w += 1;
     }

@@ -26,7 +26,7 @@ use Rattle.picks.specs.Entries.{written}
 use Rattle.evaluation.specs.declared.EvaluationAnswer.{EvaluationAnswer}
 use Rattle.evaluation.specs.Evaluation.{evaluationFault, tooManyAtoms, EvaluationAllows}
 use Rattle.evaluation.specs.Rounds.{RoundOver, Begun, Settling}
-use Rattle.evaluation.proofs.Rounds.{round-over}
+use Rattle.evaluation.proofs.Rounds.{round-settles}
 
 -- no marks, nothing held yet
 begins : (R : List Rule) → Begun R (replicate 8 0) (replicate 16 0)
@@ -40,11 +40,17 @@ begins R =
     }
 
 -- the first round: with no marks the clean literals are the held ones
-pub first-round : (R : List Rule) (n : ℕ) → HeadsBelow n R → (h s′ : List ℕ) (any : Bool) → length h ≡ 16 → IsClean R (member (replicate 8 0)) (member h)
+pub first-round : (R : List Rule) (n : ℕ) → HeadsBelow n R → n ≤ 512 → (h s′ : List ℕ) (any : Bool) → length h ≡ 16 → IsClean R (member (replicate 8 0)) (member h)
     → RoundOver (replicate 8 0) (member h) (member h) n any s′ → Settling R s′ h any
-first-round R n below h s′ any len clean o =
-    round-over R n below (replicate 8 0) (replicate 16 0) h h s′ any (begins R) len
-    (λ l. ((λ t. clean→held (member (replicate 8 0)) (clean l .0 t)), λ d. clean l .1 (held→clean (member (replicate 8 0)) (member-of-zeros 8) d))) clean o
+first-round R n below le h s′ any len clean o =
+    round-settles R n below le (replicate 8 0) s′ (replicate 16 0) h any (begins R)
+    (record {
+      held-length = len;
+      held = λ l. ((λ t. clean→held (member (replicate 8 0)) (clean l .0 t)), λ d. clean l .1 (held→clean (member (replicate 8 0)) (member-of-zeros 8) d));
+      clean = member h;
+      clean-is = clean;
+      over = o;
+    })
 
 pub evaluation-accepted : (N : ℕ) (t : List ℕ) (room : ℕ) → evaluationFault N t room ≡ Accepted → (N ≤ 512) × AcceptedTable N t × (N ≤ room)
 unfolding evaluationFault

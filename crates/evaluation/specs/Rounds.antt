@@ -2,11 +2,12 @@
 use mathlib.Core.Bool.{Bool, true, false}
 use mathlib.Core.List.{List}
 use mathlib.Core.Path.{_≡_}
-use Prim.Native.Nat.{ℕ, _<_}
+use Prim.Native.Nat.{ℕ, zero, suc}
 use lib.Dec.{T}
 use lib.ListN.{length}
 use Rattle.paper.specs.Rules.{Rule}
-use Rattle.paper.specs.Marking.{Marks, Held, CanBeMarked, Settled, Marking, IsHeld, count}
+use Rattle.paper.specs.Definitions.{Interpretation}
+use Rattle.paper.specs.Marking.{Held, Settled, Marking, IsHeld, IsClean}
 use Rattle.bits.specs.Sets.{member, putIn}
 use Rattle.marking.specs.Markable.{markable, markableBelow}
 
@@ -15,14 +16,15 @@ abbrev pub markedOne : List ℕ → ℕ → Bool → List ℕ
 markedOne s a true = putIn s a
 markedOne s a false = s
 
--- the marks s became s′ by looking at the atoms below n, all by the held H and the clean C of s
+-- the marks s after the atoms below n were looked at, all by the held H and the clean C of s
+unfoldable pub markedBelow : List ℕ → (ℕ → Bool) → (ℕ → Bool) → ℕ → List ℕ
+markedBelow s H C zero = s
+markedBelow s H C (suc a) = markedOne (markedBelow s H C a) a (markable (member s) H C a)
+
+-- the marks s became s′ by looking at the atoms below n, and any says whether one was marked
 pub record RoundOver (s : List ℕ) (H C : ℕ → Bool) (n : ℕ) (any : Bool) (s′ : List ℕ) : Type 0 where
-  pub length-same : length s′ ≡ length s
-  pub more : (b : ℕ) → T (member s b) → T (member s′ b)
-  pub one-at-a-time : (R : List Rule) → ((a : ℕ) → T (markable (member s) H C a) → CanBeMarked R (member s) a)
-      → (k : ℕ) → Marking R k (member s) → (k′ : ℕ) × Marking R k′ (member s′)
-  pub unchanged : any ≡ false → (member s′ ≡ member s) × (markableBelow (member s) H C n ≡ false)
-  pub grew : any ≡ true → count 512 (member s) < count 512 (member s′)
+  pub marks-are : s′ ≡ markedBelow s H C n
+  pub any-is : any ≡ markableBelow (member s) H C n
 
 -- marks made from none, and literals that are held with them
 pub record Begun (R : List Rule) (s h : List ℕ) : Type 0 where
@@ -37,8 +39,10 @@ pub record Settling (R : List Rule) (s h : List ℕ) (again : Bool) : Type 0 whe
   pub begun : Begun R s h
   pub settled : again ≡ false → IsHeld R (member s) (member h) × Settled R (member s)
 
--- one round from the marks s
-pub record Round (R : List Rule) (s s′ h′ : List ℕ) (any : Bool) : Type 0 where
-  pub settling : Settling R s′ h′ any
-  pub unchanged : any ≡ false → member s′ ≡ member s
-  pub grew : any ≡ true → count 512 (member s) < count 512 (member s′)
+-- one round from the marks s: the literals held with them, and every atom marked that can be marked by these and the clean ones
+pub record Round (R : List Rule) (n : ℕ) (s s′ h′ : List ℕ) (any : Bool) : Type 0 where
+  pub held-length : length h′ ≡ 16
+  pub held : IsHeld R (member s) (member h′)
+  pub clean : Interpretation
+  pub clean-is : IsClean R (member s) clean
+  pub over : RoundOver s (member h′) clean n any s′

@@ -47,7 +47,7 @@ fn mark_all(marks: &mut [u64], held: &[u64], clean: &[u64], n: usize) -> bool
     let mut any = false;
     while a < n {
         let one = mark_one(marks, held, clean, a);
-        any = either(any, one);
+        any = either(one, any);
         a += 1;
     }
     any
@@ -56,7 +56,7 @@ fn mark_all(marks: &mut [u64], held: &[u64], clean: &[u64], n: usize) -> bool
 // One round: held again, clean afresh, then every atom that can be marked is marked. Did it mark any?
 fn round(table: &[u16], marks: &mut [u64], held: &mut [u64], n: usize) -> bool
     requires { ⌜ (n ≤ 512) × Records (now table) 0 × HeadsBelow n (rulesOf (now table)) × Begun (rulesOf (now table)) (now marks) (now held) ⌝ }
-    ensures { λ r. ⌜ Round (rulesOf (now (table .entry))) (now (marks .entry)) (now (marks .exit)) (now (held .exit)) r ⌝ }
+    ensures { λ r. ⌜ Round (rulesOf (now (table .entry))) n (now (marks .entry)) (now (marks .exit)) (now (held .exit)) r ⌝ }
 {
     least::put_marked(held, marks);
     least::close(table, held, marks);

@@ -1,5 +1,4 @@
 pub mod Written
-pub mod Counted
 pub mod Tracing
 pub mod Faultless
 pub mod Demand3

@@ -11,14 +11,14 @@ use Rattle.bits.proofs.Laws.{count-turn}
 use Rattle.bits.proofs.count.Statement.{statement}
 use Rattle.bits.proofs.count.Tie as tie
 
-all-words : {w : ℕ} → w ≤ 16 → 16 ≤ w → w ≡ 16
+all-words : {w : ℕ} → w ≤ 8 → 8 ≤ w → w ≡ 8
 all-words h l = omega arith
 
 abbrev Inv-loop : tie.InvT-loop
-Inv-loop set n₀ w₀ n w = (w ≤ 16) × (n ≡ count (64 * w) (member set))
+Inv-loop set n₀ w₀ n w = (w ≤ 8) × (n ≡ count (64 * w) (member set))
 
 abbrev μ-loop : tie.MeasureT-loop
-μ-loop set n₀ w₀ n w = 16 - w
+μ-loop set n₀ w₀ n w = 8 - w
 
 loop-holds : tie.Need-loop-holds Inv-loop μ-loop
 unfolding count

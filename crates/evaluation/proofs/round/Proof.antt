@@ -1,12 +1,8 @@
 use borrow.Author.Needs.{needs}
-use mathlib.Core.Path.{sym, _∙_, ap}
+use mathlib.Core.Path.{_∙_}
 use native.Mathlib.Omega.{arith}
-use lib.ListN.{length}
 use Rattle.bits.specs.Sets.{member}
-use Rattle.words.specs.Layout.{rulesOf}
 use Rattle.least.proofs.Marked.{closed-held}
-use Rattle.evaluation.specs.Rounds.{Round}
-use Rattle.evaluation.proofs.Rounds.{round-over}
 use borrow.Author.Needs.{needs}
 use Rattle.evaluation.proofs.round.Statement.{statement}
 use Rattle.evaluation.proofs.round.Tie as tie
@@ -44,10 +40,16 @@ same-length-2 c = search needs
 
 returns : tie.Need-returns
 returns c =
+    let entry = c .before .before .before .before .before .before .before .before .before .before .before .before .before .before .before .before .before .before .before .before .before in
+    let put = c .before .before .before .before .before .before .before .before .before .before .before .before .before .before .before .put-marked in
+    let closed = c .before .before .before .before .before .before .before .before .before .before .close in
+    let clean = c .before .before .before .before .before .before .clean in
     record {
-      settling = round-over (rulesOf (c .before .before .before .before .before .before .before .before .before .before .before .before .before .before .before .before .before .before .before .before .before .args .table .now)) (c .before .before .before .before .before .before .before .before .before .before .before .before .before .before .before .before .before .before .before .before .before .args .n) (c .before .before .before .before .before .before .before .before .before .before .before .before .before .before .before .before .before .before .before .before .before .pre .2) (c .before .before .before .before .before .before .before .before .before .before .before .before .before .before .before .before .before .before .before .before .before .args .marks .now) (c .before .before .before .before .before .before .before .before .before .before .before .before .before .before .before .before .before .before .before .before .before .args .held .now) _ (c .before .before .before .before .before .before .clean .result) _ (c .before .before .mark-all .result) (c .before .before .before .before .before .before .before .before .before .before .before .before .before .before .before .before .before .before .before .before .before .pre .3) (c .before .before .before .before .before .before .before .before .before .before .close .ensures .length-same ∙ c .before .before .before .before .before .before .before .before .before .before .before .before .before .before .before .put-marked .ensures .length-same ∙ c .before .before .before .before .before .before .before .before .before .before .before .before .before .before .before .before .before .before .before .before .before .pre .3 .held-length) (closed-held (member (c .before .before .before .before .before .before .before .before .before .before .before .before .before .before .before .before .before .before .before .before .before .args .marks .now)) (c .before .before .before .before .before .before .before .before .before .before .before .before .before .before .before .before .before .before .before .before .before .args .table .now) (c .before .before .before .before .before .before .before .before .before .before .before .before .before .before .before .before .before .before .before .before .before .args .held .now) _ _ (c .before .before .before .before .before .before .before .before .before .before .before .before .before .before .before .before .before .before .before .before .before .pre .3 .held) (c .before .before .before .before .before .before .before .before .before .before .before .before .before .before .before .put-marked .ensures) (c .before .before .before .before .before .before .before .before .before .before .close .ensures)) (c .before .before .before .before .before .before .clean .ensures) (c .before .before .mark-all .ensures);
-      unchanged = λ e. c .before .before .mark-all .ensures .unchanged e .0;
-      grew = c .before .before .mark-all .ensures .grew;
+      held-length = closed .ensures .length-same ∙ put .ensures .length-same ∙ entry .pre .3 .held-length;
+      held = closed-held (member (entry .args .marks .now)) (entry .args .table .now) (entry .args .held .now) _ _ (entry .pre .3 .held) (put .ensures) (closed .ensures);
+      clean = member (clean .result);
+      clean-is = clean .ensures;
+      over = c .before .before .mark-all .ensures;
     }
 
 pub round-spec : {M : Type 1} → statement M

@@ -5,8 +5,8 @@ use Rattle.words.specs.Layout.{rulesOf}
 use Rattle.least.specs.Passing.{Records}
 use Rattle.paper.specs.Rules.{HeadsBelow}
 use Prim.Native.Nat.{_≤_}
-use Rattle.evaluation.specs.Rounds.{Settling, Round}
-use Rattle.evaluation.proofs.Rounds.{left, left-falls}
+use Rattle.evaluation.specs.Rounds.{Settling}
+use Rattle.evaluation.proofs.Rounds.{left, round-settles, round-falls}
 use Rattle.evaluation.proofs.Evaluated.{first-round}
 use Rattle.evaluation.proofs.settle.Statement.{statement}
 use Rattle.evaluation.proofs.settle.Tie as tie
@@ -46,7 +46,7 @@ mark-all-requires c κs =
 
 loop-holds : tie.Need-loop-holds Inv-loop μ-loop
 loop-holds c =
-    first-round (rulesOf (c .before .before .before .before .before .before .before .before .args .table .now)) (c .before .before .before .before .before .before .before .before .args .n) (c .before .before .before .before .before .before .before .before .pre .2) (c .before .before .before .before .before .clean .result) _ (c .before .mark-all .result) (search needs) (c .before .before .before .before .before .clean .ensures) (c .before .mark-all .ensures)
+    first-round (rulesOf (c .before .before .before .before .before .before .before .before .args .table .now)) (c .before .before .before .before .before .before .before .before .args .n) (c .before .before .before .before .before .before .before .before .pre .2) (c .before .before .before .before .before .before .before .before .pre .0) (c .before .before .before .before .before .clean .result) _ (c .before .mark-all .result) (search needs) (c .before .before .before .before .before .clean .ensures) (c .before .mark-all .ensures)
 
 slice-aggregate-round : tie.Need-slice-aggregate-round Inv-loop μ-loop
 slice-aggregate-round c =
@@ -62,11 +62,13 @@ round-requires c κs =
 
 loop-less : tie.Need-loop-less Inv-loop μ-loop
 loop-less c =
-    left-falls _ _ _ _ (c .before .before .before .before .before .loop-test .taken) (c .before .before .round .ensures .grew) (c .before .before .round .ensures .unchanged)
+    let entry = c .before .before .before .before .before .before .before .before .before .before .before .before .before .before .before in
+    round-falls (rulesOf (entry .args .table .now)) (entry .args .n) (entry .pre .2) (entry .pre .0) _ _ _ _ _ (c .before .before .before .before .before .before .loop .inv .begun) (c .before .before .round .ensures) _ (c .before .before .before .before .before .loop-test .taken)
 
 loop-again : tie.Need-loop-again Inv-loop μ-loop
 loop-again c =
-    c .before .before .round .ensures .settling
+    let entry = c .before .before .before .before .before .before .before .before .before .before .before .before .before .before .before in
+    round-settles (rulesOf (entry .args .table .now)) (entry .args .n) (entry .pre .2) (entry .pre .0) _ _ _ _ _ (c .before .before .before .before .before .before .loop .inv .begun) (c .before .before .round .ensures)
 
 returns : tie.Need-returns Inv-loop μ-loop
 returns c =

@@ -2,7 +2,6 @@ use borrow.Author.Needs.{needs}
 use mathlib.Core.Path.{sym, _∙_}
 use Rattle.bits.specs.Sets.{member}
 use Rattle.picks.specs.Entries.{CountAllows}
-use Rattle.picks.proofs.Counted.{ones-are-marks}
 use borrow.Author.Needs.{needs}
 use Rattle.picks.proofs.mark_count.Statement.{statement}
 use Rattle.picks.proofs.mark_count.Tie as tie
@@ -35,7 +34,7 @@ count-requires c κs = search needs
 
 returns-2 : tie.Need-returns-2
 returns-2 c =
-    rw (c .count .ensures ∙ ones-are-marks (c .before .before .before .before .before .before .before .args .record .marks) (search needs)) (CountAllows.counted (sym (c .before .before .before .before .record-fault .ensures) ∙ c .before .before .enum-told .given .1))
+    rw (c .count .ensures) (CountAllows.counted (sym (c .before .before .before .before .record-fault .ensures) ∙ c .before .before .enum-told .given .1))
 
 pub mark-count-spec : {M : Type 1} → statement M
 mark-count-spec =
