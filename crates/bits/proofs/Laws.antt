@@ -193,6 +193,9 @@ pub member-of-zeros : (n i : ℕ) → member (replicate n 0) i ≡ false
 unfolding member
 member-of-zeros n i = ap (λ (w : ℕ). bit w (i % 64)) (zeros n (i / 64)) ∙ bit-of-zero (i % 64)
 
+pub words-of-zeros : (n : ℕ) → Words (replicate n 0)
+words-of-zeros n w = rw (zeros n w) (omega arith)
+
 -- ---- counting
 
 -- the ones of a row's words count its members

@@ -2,7 +2,7 @@
 use mathlib.Core.Bool.{true, false}
 use mathlib.Core.List.{List, [], _++_}
 use mathlib.Core.Logic.{_↔_, _⊎_, ⊎-elim}
-use mathlib.Core.Path.{_≡_, sym}
+use mathlib.Core.Path.{_≡_, sym, _∙_, subst⁻¹}
 use Prim.Native.Nat.{ℕ, _+_, _≤_, _<_, _/_}
 use lib.Dec.{leb}
 use lib.ListN.{length, drop}
@@ -10,7 +10,7 @@ use Rattle.refusal.specs.declared.Refusal.{Refusal}
 use Rattle.refusal.specs.Numbers.{too-many-atoms, not-settled, text-room-too-small, not-a-truth-code}
 use Rattle.paper.specs.Table1.{Value, code, _and_, _or_, not′, _implies_}
 use Rattle.paper.specs.Rules.{positive, _∈_}
-use Rattle.paper.specs.Definitions.{Interpretation, value, SmallestWellSupported}
+use Rattle.paper.specs.Definitions.{Interpretation, value, Smallest, SmallestWellSupported}
 use Rattle.paper.specs.Marking.{Marked, Unmarked, CanBeMarked, Settled, IsHeld, settledValue, count, inconsistent}
 use Rattle.paper.proofs.Theorems.{smallest-by-test, smallest-exists}
 use Rattle.truth.specs.declared.Truth.{Truth}
@@ -39,6 +39,7 @@ use Rattle.evaluation.specs.declared.EvaluationAnswer.{EvaluationAnswer}
 use Rattle.evaluation.specs.Evaluation.{evaluationFault, EvaluationAllows}
 use Rattle.evaluation.proofs.Evaluated as evaluated
 use Rattle.evaluation.proofs.Laws.{evaluation-determined, evaluation-equals-report}
+use Rattle.reader.specs.declared.Reading.{Reading}
 use Rattle.reader.specs.declared.Next.{Next}
 use Rattle.reader.specs.Readings.{readingAt, nextAt, GivesOnly, NoLiteral, reached}
 use Rattle.reader.proofs.Laws as reader
@@ -60,32 +61,41 @@ use Rattle.hostsheet.proofs.Determined.{host-sheet-determined}
 -- (That each entry takes all inputs and ends is what the prover checks of it: none has a requires.)
 
 -- and, or, not, implication: Table 1 over codes; a number above 3 is 20 at place 0
-pub connective-determined : {r r′ t : Truth} → r ≡ t → r′ ≡ t → r ≡ r′
-connective-determined e e′ = one-answer e e′
+pub and-determined : (v w : ℕ) {r r′ : Truth} → r ≡ conjunction v w → r′ ≡ conjunction v w → r ≡ r′
+and-determined v w e e′ = one-answer e e′
 
-pub and-value : (a b : Value) → conjunction (code a) (code b) ≡ Code (code (a and b))
-and-value = and-is-table-1
+pub or-determined : (v w : ℕ) {r r′ : Truth} → r ≡ disjunction v w → r′ ≡ disjunction v w → r ≡ r′
+or-determined v w e e′ = one-answer e e′
 
-pub or-value : (a b : Value) → disjunction (code a) (code b) ≡ Code (code (a or b))
-or-value = or-is-table-1
+pub not-determined : (v : ℕ) {r r′ : Truth} → r ≡ negated v → r′ ≡ negated v → r ≡ r′
+not-determined v e e′ = one-answer e e′
 
-pub not-value : (a : Value) → negated (code a) ≡ Code (code (not′ a))
-not-value = not-is-table-1
+pub implication-determined : (v w : ℕ) {r r′ : Truth} → r ≡ implied v w → r′ ≡ implied v w → r ≡ r′
+implication-determined v w e e′ = one-answer e e′
 
-pub implication-value : (a b : Value) → implied (code a) (code b) ≡ Code (code (a implies b))
-implication-value = implication-is-table-1
+pub and-value : (a b : Value) {r : Truth} → r ≡ conjunction (code a) (code b) → r ≡ Code (code (a and b))
+and-value a b e = e ∙ and-is-table-1 a b
 
-pub and-refused : (v w : ℕ) → (3 < v) ⊎ (3 < w) → conjunction v w ≡ NoCode not-a-truth-code
-and-refused v w h = sym (⊎-elim (first-refused _and_ v w) (second-refused _and_ v w) h)
+pub or-value : (a b : Value) {r : Truth} → r ≡ disjunction (code a) (code b) → r ≡ Code (code (a or b))
+or-value a b e = e ∙ or-is-table-1 a b
 
-pub or-refused : (v w : ℕ) → (3 < v) ⊎ (3 < w) → disjunction v w ≡ NoCode not-a-truth-code
-or-refused v w h = sym (⊎-elim (first-refused _or_ v w) (second-refused _or_ v w) h)
+pub not-value : (a : Value) {r : Truth} → r ≡ negated (code a) → r ≡ Code (code (not′ a))
+not-value a e = e ∙ not-is-table-1 a
 
-pub not-refused : (v : ℕ) → 3 < v → negated v ≡ NoCode not-a-truth-code
-not-refused v h = sym (truth.not-refused v h)
+pub implication-value : (a b : Value) {r : Truth} → r ≡ implied (code a) (code b) → r ≡ Code (code (a implies b))
+implication-value a b e = e ∙ implication-is-table-1 a b
 
-pub implication-refused : (v w : ℕ) → (3 < v) ⊎ (3 < w) → implied v w ≡ NoCode not-a-truth-code
-implication-refused v w h = sym (⊎-elim (first-refused _implies_ v w) (second-refused _implies_ v w) h)
+pub and-refused : (v w : ℕ) {r : Truth} → (3 < v) ⊎ (3 < w) → r ≡ conjunction v w → r ≡ NoCode not-a-truth-code
+and-refused v w h e = e ∙ sym (⊎-elim (first-refused _and_ v w) (second-refused _and_ v w) h)
+
+pub or-refused : (v w : ℕ) {r : Truth} → (3 < v) ⊎ (3 < w) → r ≡ disjunction v w → r ≡ NoCode not-a-truth-code
+or-refused v w h e = e ∙ sym (⊎-elim (first-refused _or_ v w) (second-refused _or_ v w) h)
+
+pub not-refused : (v : ℕ) {r : Truth} → 3 < v → r ≡ negated v → r ≡ NoCode not-a-truth-code
+not-refused v h e = e ∙ sym (truth.not-refused v h)
+
+pub implication-refused : (v w : ℕ) {r : Truth} → (3 < v) ⊎ (3 < w) → r ≡ implied v w → r ≡ NoCode not-a-truth-code
+implication-refused v w h e = e ∙ sym (⊎-elim (first-refused _implies_ v w) (second-refused _implies_ v w) h)
 
 -- the word table check
 pub check-allows-one : (N : ℕ) (t : List ℕ) (r r′ : Checked) → r ≡ tableCheck N t → r′ ≡ tableCheck N t → r ≡ r′
@@ -177,23 +187,24 @@ pub host-evaluation-refused : (N : ℕ) (bytes room : List ℕ) {f : Refusal} {a
     → HostEvaluation N bytes room answer room′ → (answer ≡ packed f) × (room′ ≡ room)
 host-evaluation-refused N bytes room e o = host-determined N bytes room o (HostEvaluation.refused e)
 
--- so an answer of 0 is an acceptance, and one from 2^32 on a refusal
+-- so an answer tells its cause: 0 if nothing refuses, else the fault that the order finds, with its number in the high half and its place in the low one
 pub host-evaluation-tells : (N : ℕ) (bytes room : List ℕ) {answer : ℕ} {room′ : List ℕ} → HostEvaluation N bytes room answer room′
-    → (answer ≡ 0) ⊎ ((f : Refusal) × (answer ≡ packed f) × (4294967296 ≤ answer))
+    → ((hostFault N (wordsIn bytes) (loneByte bytes) (length room) ≡ Accepted) × (answer ≡ 0))
+    ⊎ ((f : Refusal) × (hostFault N (wordsIn bytes) (loneByte bytes) (length room) ≡ Refused f) × (answer ≡ packed f) × (1 ≤ f .number) × (f .place < 4294967296))
 host-evaluation-tells = host-answer-tells
 
 -- the sheet reader: only 8, 10 and 11, at every place; the same again after the end or a refusal; and it ends
 pub reader-determined : (s : List ℕ) (p : ℕ) (x y : Next) → x ≡ nextAt s p → y ≡ nextAt s p → x ≡ y
 reader-determined = reader.reading-determined
 
-pub reader-refuses : (s : List ℕ) (p : ℕ) → GivesOnly (readingAt s p)
-reader-refuses = reader.gives-only-8-10-11
+pub reader-refuses : (s : List ℕ) (p : ℕ) (x : Reading) → x ≡ readingAt s p → GivesOnly x
+reader-refuses s p x e = subst⁻¹ GivesOnly e (reader.gives-only-8-10-11 s p)
 
-pub reader-same-again : (s : List ℕ) (p : ℕ) → NoLiteral (readingAt s p) → nextAt s (nextAt s p .place) ≡ nextAt s p
+pub reader-same-again : (s : List ℕ) (p : ℕ) (x y : Next) → x ≡ nextAt s p → y ≡ nextAt s (x .place) → NoLiteral (x .reading) → y ≡ x
 reader-same-again = reader.same-again
 
-pub reader-ends : (s : List ℕ) → NoLiteral (readingAt s (reached s 0 (length s + 1)))
-reader-ends = reader.reader-ends
+pub reader-ends : (s : List ℕ) (x : Reading) → x ≡ readingAt s (reached s 0 (length s + 1)) → NoLiteral x
+reader-ends s x e = subst⁻¹ NoLiteral e (reader.reader-ends s)
 
 module _ (s : List ℕ) (wordRoom nameRoom : ℕ) (text : List ℕ) where
   -- the sheet entry: 8, 9, then the first literal with a fault (and never 19), last 15; a refusal leaves zeros in the buffers and the text as it was
@@ -216,9 +227,15 @@ pub host-sheet-refused : (s words names text : List ℕ) {f : Refusal} {answer :
     → (answer ≡ packed f) × (ws ≡ wordsOver (padded (length words / 2) []) words) × (ns ≡ namesOver (padded (length names / 4) []) names) × (text′ ≡ text)
 host-sheet-refused s words names text e o = host-sheet-determined s words names text o (HostSheet.answered (SheetAllows.refused e))
 
--- so an answer below 2^32 is a value sheet's length, and one from there on a refusal
+-- so an answer tells its cause: the length of the value sheet, if the sheet is accepted and it fits, else the fault that the order finds, 15 last
 pub host-sheet-tells : (s words names text : List ℕ) {answer : ℕ} {ws ns text′ : List ℕ} → HostSheet s words names text answer ws ns text′
-    → (answer < 4294967296) ⊎ ((f : Refusal) × (answer ≡ packed f) × (4294967296 ≤ answer))
+    → ((x : Sofar) × (I : Interpretation) × (sheetOutcome s (length words / 2) (length names / 4) ≡ sheet.accepted x) × Smallest (x .rules) I
+    × (length (sheetOf s x I) ≤ length text) × (answer ≡ length (sheetOf s x I)) × (answer < 4294967296))
+    ⊎ ((f : Refusal)
+    × ((sheetOutcome s (length words / 2) (length names / 4) ≡ sheet.refused f)
+    ⊎ ((x : Sofar) × (I : Interpretation) × (sheetOutcome s (length words / 2) (length names / 4) ≡ sheet.accepted x) × Smallest (x .rules) I
+    × (length text < length (sheetOf s x I)) × (f ≡ text-room-too-small (length (sheetOf s x I)))))
+    × (answer ≡ packed f) × (1 ≤ f .number) × (f .place < 4294967296))
 host-sheet-tells = answer-tells
 
 -- ---- Demand 2. For an accepted table every atom's value is its value in the smallest well-supported model, by Definitions 5, 6, 8, 9 as printed.
@@ -262,27 +279,54 @@ module _ (s : List ℕ) (wordRoom nameRoom : ℕ) (text : List ℕ) (x : Sofar) 
     sheet-does-not-fit h o = sheet-determined s wordRoom nameRoom text o (SheetAllows.does-not-fit read (smallest-by-test (x .rules) (sheet-one-rule s wordRoom nameRoom x read) I .1 smallest) h)
 
 -- and so does the host's, over bytes
-pub host-sheet-values : (s words names text : List ℕ) (x : Sofar) → sheetOutcome s (length words / 2) (length names / 4) ≡ sheet.accepted x
-    → (I : Interpretation) → SmallestWellSupported (x .rules) I → {answer : ℕ} {ws ns text′ : List ℕ} → length (sheetOf s x I) ≤ length text → HostSheet s words names text answer ws ns text′
-    → (answer ≡ length (sheetOf s x I)) × (ws ≡ wordsOver (padded (length words / 2) (wordsOf (x .rules))) words)
-    × (ns ≡ namesOver (padded (length names / 4) (x .names)) names) × (text′ ≡ sheetOf s x I ++ drop (length (sheetOf s x I)) text)
-host-sheet-values s words names text x read I smallest h o =
-    let one = sheet-one-rule s (length words / 2) (length names / 4) x read in
-    host-sheet-determined s words names text o (HostSheet.answered (SheetAllows.accepted read (smallest-by-test (x .rules) one I .1 smallest) h))
+module _ (s words names text : List ℕ) (x : Sofar) (read : sheetOutcome s (length words / 2) (length names / 4) ≡ sheet.accepted x)
+    (I : Interpretation) (smallest : SmallestWellSupported (x .rules) I) where
+  pub host-sheet-values : {answer : ℕ} {ws ns text′ : List ℕ} → length (sheetOf s x I) ≤ length text → HostSheet s words names text answer ws ns text′
+      → (answer ≡ length (sheetOf s x I)) × (ws ≡ wordsOver (padded (length words / 2) (wordsOf (x .rules))) words)
+      × (ns ≡ namesOver (padded (length names / 4) (x .names)) names) × (text′ ≡ sheetOf s x I ++ drop (length (sheetOf s x I)) text)
+  host-sheet-values h o =
+      let one = sheet-one-rule s (length words / 2) (length names / 4) x read in
+      host-sheet-determined s words names text o (HostSheet.answered (SheetAllows.accepted read (smallest-by-test (x .rules) one I .1 smallest) h))
+
+  pub host-sheet-does-not-fit : {answer : ℕ} {ws ns text′ : List ℕ} → length text < length (sheetOf s x I) → HostSheet s words names text answer ws ns text′
+      → (answer ≡ packed (text-room-too-small (length (sheetOf s x I)))) × (ws ≡ wordsOver (padded (length words / 2) []) words)
+      × (ns ≡ namesOver (padded (length names / 4) []) names) × (text′ ≡ text)
+  host-sheet-does-not-fit h o =
+      let one = sheet-one-rule s (length words / 2) (length names / 4) x read in
+      host-sheet-determined s words names text o (HostSheet.answered (SheetAllows.does-not-fit read (smallest-by-test (x .rules) one I .1 smallest) h))
 
 -- ---- Demand 3. The order of work never matters: one accepted table, a fresh record, every list of picks.
 
--- each pick marks its own atom exactly when it may ..
-pub pick-marks-when-it-may : {r r′ : MarkRecord} {t : List ℕ} {a : ℕ} {answer : PickAnswer} → PickAllows r t a answer r′ → pickFault (r .n) (marksOf r) t a ≡ Accepted
-    → (answer ≡ PickAnswer.Marked) ↔ CanBeMarked (rulesOf t) (marksOf r) a
-pick-marks-when-it-may o e = rooms.marks-exactly-when-it-may o e
+-- two lists of picks that settle, with repeats and refusals, leave equal records
+pub picks-end-the-same : (N : ℕ) (t : List ℕ) → AcceptedTable N t → {l l′ : List ℕ} {r r′ : MarkRecord} → Picks t (noMarksFor N) l r → Picks t (noMarksFor N) l′ r′
+    → Settled (rulesOf t) (marksOf r) → Settled (rulesOf t) (marksOf r′) → r ≡ r′
+picks-end-the-same = rooms.same-record
 
--- .. and touches no other
+-- a pick touches no other atom's mark, and not N, whatever record and table it is lent
 pub pick-touches-no-other : {r r′ : MarkRecord} {t : List ℕ} {a : ℕ} {answer : PickAnswer} → PickAllows r t a answer r′
     → (r′ .n ≡ r .n) × ((b : ℕ) → (b ≡ a → ⊥) → marksOf r′ b ≡ marksOf r b)
 pick-touches-no-other o = rooms.only-its-own-atom o
 
 module _ (N : ℕ) (t : List ℕ) (accepted : AcceptedTable N t) {l : List ℕ} {r : MarkRecord} (picked : Picks t (noMarksFor N) l r) where
+  -- each pick marks its own atom exactly when it may
+  pub pick-marks-when-it-may : (a : ℕ) {answer : PickAnswer} {r′ : MarkRecord} → PickAllows r t a answer r′
+      → (answer ≡ PickAnswer.Marked) ↔ CanBeMarked (rulesOf t) (marksOf r) a
+  pick-marks-when-it-may a o = rooms.marks-when-it-may N t accepted picked a o
+
+  -- a pick of an atom below N, the settled question and the count are never refused, and the report with room only before settled
+  pub pick-is-not-refused : (a : ℕ) → a < N → {answer : PickAnswer} {r′ : MarkRecord} → PickAllows r t a answer r′ → (f : Refusal) → answer ≡ PickAnswer.Refused f → ⊥
+  pick-is-not-refused a lt o = rooms.pick-never-refused N t accepted picked a lt o
+
+  pub settled-is-not-refused : {answer : SettledAnswer} → SettledAllows r t answer → (f : Refusal) → answer ≡ SettledAnswer.Refused f → ⊥
+  settled-is-not-refused o = rooms.settled-never-refused N t accepted picked o
+
+  pub report-is-refused-before-settled : (room : List ℕ) → N ≤ length room → {answer : ReportAnswer} {room′ : List ℕ} → ReportAllows r t room answer room′
+      → (f : Refusal) → answer ≡ ReportAnswer.Refused f → (f ≡ not-settled) × (Settled (rulesOf t) (marksOf r) → ⊥)
+  report-is-refused-before-settled room fits o = rooms.report-refused-before-settled N t accepted picked room fits o
+
+  pub count-is-not-refused : {answer : CountAnswer} → CountAllows r answer → answer ≡ CountAnswer.Marks (count 512 (marksOf r))
+  count-is-not-refused o = rooms.count-never-refused N t accepted picked o
+
   module _ (settled : Settled (rulesOf t) (marksOf r)) (I : Interpretation) (smallest : SmallestWellSupported (rulesOf t) I) where
     -- when nothing can be marked the report is demand 2's values ..
     pub report-is-the-values : (room : List ℕ) → N ≤ length room → {answer : ReportAnswer} {room′ : List ℕ} → ReportAllows r t room answer room′

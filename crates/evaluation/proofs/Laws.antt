@@ -1,11 +1,12 @@
 -- What an outcome of evaluation tells: 19 never comes, and two allowed outcomes are equal. Assumes nothing.
-use mathlib.Core.Bool.{Bool}
+use mathlib.Core.Bool.{Bool, true, false}
 use mathlib.Core.List.{List}
 use mathlib.Core.Path.{_≡_, refl, sym, ap, _∙_, subst, subst⁻¹}
 use Prim.Native.Nat.{ℕ, _≤_, _<_}
 use native.Mathlib.Omega.{arith}
 use lib.Dec.{leb}
 use lib.ListN.{length}
+use borrow.Author.Tests.{leb-true}
 use Rattle.refusal.specs.declared.Refusal.{Refusal}
 use Rattle.refusal.specs.Numbers.{too-many-atoms, table-too-long, value-room-too-small, never-settled}
 use Rattle.words.specs.declared.Checked.{Checked}
@@ -13,7 +14,7 @@ use Rattle.words.specs.declared.Checked.the-variants.{Accepted, Refused}
 use Rattle.words.specs.Check.{asking, orElse, tableCheck}
 use Rattle.words.specs.Layout.{rulesOf}
 use Rattle.words.proofs.Laws.{refused≢accepted, accepted-heads}
-use Rattle.words.proofs.Bounds.{Within, asking-within, orElse-within, check-within}
+use Rattle.words.proofs.Bounds.{Within, asking-within, orElse-within, within-more, check-within}
 use Rattle.paper.specs.Rules.{positive}
 use Rattle.paper.specs.Definitions.{Interpretation, value, Smallest}
 use Rattle.paper.specs.Marking.{Marks, Marking, Settled}
@@ -60,16 +61,18 @@ evaluation-determined N t room (evaluated e I s) (never-settles e′ A m n) = ab
 evaluation-determined N t room (evaluated e I s) (evaluated e′ J s′) =
     (refl, ap (λ (K : Interpretation). written (λ a. value K (positive a)) N room) (smallest-unique (rulesOf t) I J s s′))
 
--- a refusal's number and place have bounds
-pub evaluation-within : (N : ℕ) (t : List ℕ) (room : ℕ) → Within (length t) (evaluationFault N t room)
+-- a refusal's number and place have bounds: a longer table is refused at 0
+pub evaluation-within : (N : ℕ) (t : List ℕ) (room : ℕ) → Within 8192 (evaluationFault N t room)
 unfolding evaluationFault
 evaluation-within N t room =
-    orElse-within (length t) (tooManyAtoms N) (orElse (tableTooLong t) (orElse (roomTooSmall N room) (tableCheck N t)))
-    (asking-within (length t) (leb N 512) too-many-atoms Accepted (omega arith, omega arith, omega arith) tt)
-    (orElse-within (length t) (tableTooLong t) (orElse (roomTooSmall N room) (tableCheck N t))
-    (asking-within (length t) (leb (length t) 8192) table-too-long Accepted (omega arith, omega arith, omega arith) tt)
-    (orElse-within (length t) (roomTooSmall N room) (tableCheck N t)
-    (asking-within (length t) (leb N room) value-room-too-small Accepted (omega arith, omega arith, omega arith) tt) (check-within N t)))
+    orElse-within 8192 (tooManyAtoms N) (orElse (tableTooLong t) (orElse (roomTooSmall N room) (tableCheck N t)))
+    (asking-within 8192 (leb N 512) too-many-atoms Accepted (omega arith, omega arith, omega arith) tt) (go (leb (length t) 8192) refl)
+  where
+    go : (short : Bool) → leb (length t) 8192 ≡ short → Within 8192 (orElse (asking short table-too-long Accepted) (orElse (roomTooSmall N room) (tableCheck N t)))
+    go false p = (omega arith, omega arith, omega arith)
+    go true p =
+        orElse-within 8192 (roomTooSmall N room) (tableCheck N t) (asking-within 8192 (leb N room) value-room-too-small Accepted (omega arith, omega arith, omega arith) tt)
+        (within-more (length t) 8192 (leb-true (length t) 8192 p) (tableCheck N t) (check-within N t))
 
 -- whole evaluation equals the report after picks from a fresh record until settled, in any order
 pub evaluation-equals-report : (N : ℕ) (t room x y : List ℕ) {l : List ℕ} {r : MarkRecord} {answer : ReportAnswer} → EvaluationAllows N t room EvaluationAnswer.Evaluated x

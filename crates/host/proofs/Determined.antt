@@ -3,17 +3,18 @@ use mathlib.Core.Bool.{Bool, not}
 use mathlib.Core.List.{List}
 use mathlib.Core.Logic.{_⊎_, inl, inr}
 use mathlib.Core.Path.{_≡_, refl, sym, ap, _∙_, subst}
-use Prim.Native.Nat.{ℕ, _≤_}
+use Prim.Native.Nat.{ℕ, _≤_, _<_}
 use native.Mathlib.Omega.{arith}
 use lib.ListN.{length}
 use Rattle.refusal.specs.declared.Refusal.{Refusal}
 use Rattle.refusal.specs.Numbers.{cut-short}
+use Rattle.words.specs.declared.Checked.{Checked}
 use Rattle.words.specs.declared.Checked.the-variants.{Accepted, Refused}
 use Rattle.words.specs.Check.{asking, orElse, AcceptedTable}
 use Rattle.words.specs.Layout.{rulesOf}
-use Rattle.words.proofs.Bounds.{Within, asking-within, orElse-within}
+use Rattle.words.proofs.Bounds.{Within, asking-within}
 use Rattle.words.proofs.Steps.{orElse-accepted}
-use Rattle.words.proofs.Laws.{refused≢accepted}
+use Rattle.words.proofs.Laws.{refused≢accepted, accepted-length}
 use Rattle.paper.specs.Rules.{positive}
 use Rattle.paper.specs.Definitions.{Interpretation, value}
 use Rattle.paper.proofs.Smallest.{smallest-unique}
@@ -37,19 +38,22 @@ host-determined N bytes room (HostEvaluation.evaluated e I s) (HostEvaluation.re
 host-determined N bytes room (HostEvaluation.evaluated e I s) (HostEvaluation.evaluated e′ J s′) =
     (refl, ap (λ (K : Interpretation). written (λ a. value K (positive a)) N room) (smallest-unique (rulesOf (wordsIn bytes)) I J s s′))
 
--- a refusal's answer is never 0: its number stands above the low half
-pub host-refusal-is-large : (N : ℕ) (t : List ℕ) (lone : Bool) (room : ℕ) (f : Refusal) → hostFault N t lone room ≡ Refused f → 4294967296 ≤ packed f
+-- a refusal's number is not 0, and number and place have room in the answer
+host-within : (N : ℕ) (t : List ℕ) (lone : Bool) (room : ℕ) → Within 8192 (hostFault N t lone room)
 unfolding hostFault
-host-refusal-is-large N t lone room f e =
-    let w : Within (length t) (orElse (evaluationFault N t room) (asking (not lone) (cut-short (length t)) Accepted)) =
-    orElse-within (length t) (evaluationFault N t room) (asking (not lone) (cut-short (length t)) Accepted) (evaluation-within N t room)
-    (asking-within (length t) (not lone) (cut-short (length t)) Accepted (omega arith, omega arith, omega arith) tt)
-    in
-    let k : Within (length t) (Refused f) = subst (Within (length t)) e w in
-    let some = k .2 in
-    omega arith
+host-within N t lone room = go (evaluationFault N t room) refl
+  where
+    go : (x : Checked) → evaluationFault N t room ≡ x → Within 8192 (orElse x (asking (not lone) (cut-short (length t)) Accepted))
+    go (Refused f) e = subst (Within 8192) e (evaluation-within N t room)
+    go Accepted e =
+        let short = accepted-length N t (evaluation-accepted N t room e .1) in
+        asking-within 8192 (not lone) (cut-short (length t)) Accepted (omega arith, omega arith, omega arith) tt
 
+-- an answer tells its cause: 0 exactly if nothing refuses, else the fault that the written order finds
 pub host-answer-tells : (N : ℕ) (bytes room : List ℕ) {a : ℕ} {room′ : List ℕ} → HostEvaluation N bytes room a room′
-    → (a ≡ 0) ⊎ ((f : Refusal) × (a ≡ packed f) × (4294967296 ≤ a))
-host-answer-tells N bytes room (HostEvaluation.refused {f} e) = inr (f, refl, host-refusal-is-large N (wordsIn bytes) (loneByte bytes) (length room) f e)
-host-answer-tells N bytes room (HostEvaluation.evaluated e I s) = inl refl
+    → ((hostFault N (wordsIn bytes) (loneByte bytes) (length room) ≡ Accepted) × (a ≡ 0))
+    ⊎ ((f : Refusal) × (hostFault N (wordsIn bytes) (loneByte bytes) (length room) ≡ Refused f) × (a ≡ packed f) × (1 ≤ f .number) × (f .place < 4294967296))
+host-answer-tells N bytes room (HostEvaluation.refused {f} e) =
+    let k : Within 8192 (Refused f) = subst (Within 8192) e (host-within N (wordsIn bytes) (loneByte bytes) (length room)) in
+    inr (f, e, refl, k .2, omega (arith, k .1))
+host-answer-tells N bytes room (HostEvaluation.evaluated e I s) = inl (e, refl)

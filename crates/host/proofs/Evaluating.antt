@@ -22,9 +22,9 @@ use Rattle.host.specs.Bytes.{wordsIn, loneByte}
 use Rattle.host.specs.Evaluation.{hostFault, packed, Packable, WordsEvaluation, HostEvaluation, tooLongAnswer}
 use Rattle.host.proofs.Bytes.{length-wordsIn}
 
-pub within-packable : (b : ℕ) (x : Checked) (f : Refusal) → b ≤ 8192 → Within b x → x ≡ Refused f → Packable f
-within-packable b x f h w e =
-    let k : Within b (Refused f) = subst (Within b) e w in
+pub within-packable : (x : Checked) (f : Refusal) → Within 8192 x → x ≡ Refused f → Packable f
+within-packable x f w e =
+    let k : Within 8192 (Refused f) = subst (Within 8192) e w in
     let n = k .0 in
     let p = k .1 in
     record { number-small = omega arith; place-small = omega arith }
@@ -35,9 +35,9 @@ words-refused N t room room′ ans r a o e p =
     let q = refused-is N t room room′ ans r o e in
     rw (p, q .1) (WordsEvaluation.refused (q .0))
 
-pub words-packable : (N : ℕ) (t room room′ : List ℕ) (ans : EvaluationAnswer) (r : Refusal) → length t ≤ 8192 → EvaluationAllows N t room ans room′ → ans ≡ EvaluationAnswer.Refused r → Packable r
-words-packable N t room room′ ans r h o e =
-    within-packable (length t) (evaluationFault N t (length room)) r h (evaluation-within N t (length room)) (refused-is N t room room′ ans r o e .0)
+pub words-packable : (N : ℕ) (t room room′ : List ℕ) (ans : EvaluationAnswer) (r : Refusal) → EvaluationAllows N t room ans room′ → ans ≡ EvaluationAnswer.Refused r → Packable r
+words-packable N t room room′ ans r o e =
+    within-packable (evaluationFault N t (length room)) r (evaluation-within N t (length room)) (refused-is N t room room′ ans r o e .0)
 
 pub words-evaluated : (N : ℕ) (t room room′ : List ℕ) (ans : EvaluationAnswer) → EvaluationAllows N t room ans room′ → ans ≡ EvaluationAnswer.Evaluated → WordsEvaluation N t room 0 room′
 words-evaluated N t room room′ ans o e =
@@ -45,12 +45,12 @@ words-evaluated N t room room′ ans o e =
     rw (q .1 .2) (WordsEvaluation.evaluated (q .0) (q .1 .0) (q .1 .1))
 
 -- a fault of the words comes before the lone byte
-pub cut-refused : (N : ℕ) (t : List ℕ) (room : ℕ) (x : Checked) (r : Refusal) → length t ≤ 8192 → x ≡ evaluationFault N t room → x ≡ Refused r
+pub cut-refused : (N : ℕ) (t : List ℕ) (room : ℕ) (x : Checked) (r : Refusal) → x ≡ evaluationFault N t room → x ≡ Refused r
     → (hostFault N t true room ≡ Refused r) × Packable r
 unfolding hostFault
-cut-refused N t room x r h e p = (
+cut-refused N t room x r e p = (
   ap (λ (c : Checked). orElse c (asking false (cut-short (length t)) Accepted)) (sym e ∙ p),
-  within-packable (length t) (evaluationFault N t room) r h (evaluation-within N t room) (sym e ∙ p),
+  within-packable (evaluationFault N t room) r (evaluation-within N t room) (sym e ∙ p),
 )
 
 pub cut-accepted : (N : ℕ) (t : List ℕ) (room : ℕ) (x : Checked) (r : Refusal) → length t ≤ 8192 → x ≡ evaluationFault N t room → x ≡ Accepted → r ≡ cut-short (length t)

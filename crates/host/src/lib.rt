@@ -67,7 +67,6 @@ fn cut_short(n: u64, words: &[u16], room: u64) -> Refusal
 
 // Whole words, and no byte after them.
 fn evaluate_words(n: u64, words: &[u16], values: &mut [u8]) -> u64
-    requires { ⌜ length (now words) ≤ 8192 ⌝ }
     ensures { λ a. ⌜ WordsEvaluation n (now (words .entry)) (now (values .entry)) a (now (values .exit)) ⌝ }
 {
     match evaluation::evaluate(n, words, values) {

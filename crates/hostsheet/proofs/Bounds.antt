@@ -1,4 +1,4 @@
--- A refused sheet's number and place have room in the answer. Assumes nothing.
+-- A refused sheet's number and place have room in the answer, and the answer tells its cause. Assumes nothing.
 use mathlib.Core.Bool.{Bool, true, false, not, cond, _&&_}
 use mathlib.Core.List.{List, [], _∷_}
 use mathlib.Core.Logic.{_⊎_, inl, inr}
@@ -9,10 +9,10 @@ use lib.Dec.{leb, eqb}
 use lib.ListN.{length, drop}
 use borrow.Author.Tests.{leb-true}
 use Rattle.refusal.specs.declared.Refusal.{Refusal}
-use Rattle.refusal.specs.Numbers.{never-settled, text-room-too-small}
+use Rattle.refusal.specs.Numbers.{text-room-too-small}
 use Rattle.paper.specs.Table1.{code}
 use Rattle.paper.specs.Rules.{positive}
-use Rattle.paper.specs.Definitions.{Interpretation, value}
+use Rattle.paper.specs.Definitions.{Interpretation, value, Smallest}
 use Rattle.words.specs.declared.Checked.{Checked}
 use Rattle.words.specs.declared.Checked.the-variants.{Accepted, Refused as Faulty}
 use Rattle.words.proofs.Bounds.{Within, asking-within}
@@ -30,6 +30,7 @@ use Rattle.valuesheet.specs.ValueSheet.{hasLine, lineBytes, bytesFrom}
 use Rattle.valuesheet.proofs.Printing.{lines-length}
 use Rattle.sheets.specs.declared.SheetAnswer.{SheetAnswer}
 use Rattle.sheets.specs.SheetEntry.{SheetAllows, sheetOf}
+use Rattle.sheets.proofs.Laws.{sheet-settles}
 use Rattle.host.specs.Evaluation.{packed, Packable}
 use Rattle.hostsheet.specs.SheetBytes.{HasRoom, HostSheet}
 
@@ -140,47 +141,43 @@ unfolding bytesFrom
 lines-small heads a [] = omega arith
 lines-small heads a (e ∷ es) = omega (arith, line-small (hasLine heads a) e, lines-small heads (suc a) es)
 
-pub has-room : (s : List ℕ) (wordRoom nameRoom : ℕ) (text : List ℕ) {r : SheetAnswer} {ws ns text′ : List ℕ} → SheetAllows s wordRoom nameRoom text r ws ns text′ → HasRoom r
-has-room s wordRoom nameRoom text (SheetAllows.refused {f} e) g same =
-    let small : Small f = subst SmallOutcome e (outcome-small s wordRoom nameRoom) in
-    let is : f ≡ g = cc in
-    subst Packable is (record { number-small = omega arith; place-small = omega arith })
-has-room s wordRoom nameRoom text (SheetAllows.never-settles e A m n) g same =
-    let is : never-settled ≡ g = cc in
-    subst Packable is (record { number-small = omega arith; place-small = omega arith })
-has-room s wordRoom nameRoom text (SheetAllows.does-not-fit {x} {I} e i h) g same =
-    let few = sheet-within s wordRoom nameRoom x e .at-most-512 in
-    let is : text-room-too-small (length (sheetOf s x I)) ≡ g = cc in
-    subst Packable is
-    (record { number-small = omega arith; place-small = omega (arith, few, lines-length s (isHead (x .rules)) (λ a. code (value I (positive a))) 0 (x .names), lines-small (isHead (x .rules)) 0 (x .names)) })
-has-room s wordRoom nameRoom text (SheetAllows.accepted {x} {I} e i h) g same = absurd (let z : _≡_ {A = ℕ} 0 1 = cc in omega arith)
-
--- the answer tells which it is: a refusal's has its number above the low half, a value sheet's length is below it
-pub refusal-is-large : (s : List ℕ) (wordRoom nameRoom : ℕ) (text : List ℕ) {r : SheetAnswer} {ws ns text′ : List ℕ} → SheetAllows s wordRoom nameRoom text r ws ns text′
-    → (g : Refusal) → r ≡ SheetAnswer.Refused g → 4294967296 ≤ packed g
-refusal-is-large s wordRoom nameRoom text (SheetAllows.refused {f} e) g same =
-    let small : Small f = subst SmallOutcome e (outcome-small s wordRoom nameRoom) in
-    let is : f ≡ g = cc in
-    let some = small .2 in
-    subst (λ (x : Refusal). 4294967296 ≤ packed x) is (omega arith)
-refusal-is-large s wordRoom nameRoom text (SheetAllows.never-settles e A m n) g same =
-    let is : never-settled ≡ g = cc in
-    subst (λ (x : Refusal). 4294967296 ≤ packed x) is (omega arith)
-refusal-is-large s wordRoom nameRoom text (SheetAllows.does-not-fit {x} {I} e i h) g same =
-    let is : text-room-too-small (length (sheetOf s x I)) ≡ g = cc in
-    subst (λ (y : Refusal). 4294967296 ≤ packed y) is (omega arith)
-refusal-is-large s wordRoom nameRoom text (SheetAllows.accepted {x} {I} e i h) g same = absurd (let z : _≡_ {A = ℕ} 0 1 = cc in omega arith)
-
-pub value-sheet-is-short : (s : List ℕ) (wordRoom nameRoom : ℕ) (x : Sofar) (I : Interpretation) → sheetOutcome s wordRoom nameRoom ≡ accepted x → length (sheetOf s x I) < 4294967296
+-- every value sheet's length is below the low half's end
+value-sheet-is-short : (s : List ℕ) (wordRoom nameRoom : ℕ) (x : Sofar) (I : Interpretation) → sheetOutcome s wordRoom nameRoom ≡ accepted x → length (sheetOf s x I) < 4294967296
 value-sheet-is-short s wordRoom nameRoom x I e =
     let few = sheet-within s wordRoom nameRoom x e .at-most-512 in
     omega (arith, few, lines-length s (isHead (x .rules)) (λ a. code (value I (positive a))) 0 (x .names), lines-small (isHead (x .rules)) 0 (x .names))
 
--- so each answer is one or the other
+-- a refusal's number is not 0, and number and place have room in the answer
+packs : (s : List ℕ) (wordRoom nameRoom : ℕ) (text : List ℕ) {r : SheetAnswer} {ws ns text′ : List ℕ} → SheetAllows s wordRoom nameRoom text r ws ns text′
+    → (g : Refusal) → r ≡ SheetAnswer.Refused g → Packable g × (1 ≤ g .number)
+packs s wordRoom nameRoom text (SheetAllows.refused {f} e) g same =
+    let small : Small f = subst SmallOutcome e (outcome-small s wordRoom nameRoom) in
+    let is : f ≡ g = cc in
+    subst (λ (x : Refusal). Packable x × (1 ≤ x .number)) is (record { number-small = omega arith; place-small = omega arith }, small .2)
+packs s wordRoom nameRoom text (SheetAllows.never-settles {x} e A m n) g same = absurd (n (sheet-settles s wordRoom nameRoom x e A m))
+packs s wordRoom nameRoom text (SheetAllows.does-not-fit {x} {I} e i h) g same =
+    let short = value-sheet-is-short s wordRoom nameRoom x I e in
+    let is : text-room-too-small (length (sheetOf s x I)) ≡ g = cc in
+    subst (λ (y : Refusal). Packable y × (1 ≤ y .number)) is (record { number-small = omega arith; place-small = short }, omega arith)
+packs s wordRoom nameRoom text (SheetAllows.accepted {x} {I} e i h) g same = absurd (let z : _≡_ {A = ℕ} 0 1 = cc in omega arith)
+
+pub has-room : (s : List ℕ) (wordRoom nameRoom : ℕ) (text : List ℕ) {r : SheetAnswer} {ws ns text′ : List ℕ} → SheetAllows s wordRoom nameRoom text r ws ns text′ → HasRoom r
+has-room s wordRoom nameRoom text o g same = packs s wordRoom nameRoom text o g same .0
+
+-- an answer tells its cause: the accepted sheet whose value sheet has that length and fits, or the fault that the written order finds, 15 last
 pub answer-tells : (s words names text : List ℕ) {a : ℕ} {ws ns text′ : List ℕ} → HostSheet s words names text a ws ns text′
-    → (a < 4294967296) ⊎ ((f : Refusal) × (a ≡ packed f) × (4294967296 ≤ a))
+    → ((x : Sofar) × (I : Interpretation) × (sheetOutcome s (length words / 2) (length names / 4) ≡ accepted x) × Smallest (x .rules) I
+    × (length (sheetOf s x I) ≤ length text) × (a ≡ length (sheetOf s x I)) × (a < 4294967296))
+    ⊎ ((f : Refusal)
+    × ((sheetOutcome s (length words / 2) (length names / 4) ≡ refused f)
+    ⊎ ((x : Sofar) × (I : Interpretation) × (sheetOutcome s (length words / 2) (length names / 4) ≡ accepted x) × Smallest (x .rules) I
+    × (length text < length (sheetOf s x I)) × (f ≡ text-room-too-small (length (sheetOf s x I)))))
+    × (a ≡ packed f) × (1 ≤ f .number) × (f .place < 4294967296))
 answer-tells s words names text (HostSheet.answered (SheetAllows.refused {f} e)) =
-    inr (f, refl, refusal-is-large s (length words / 2) (length names / 4) text (SheetAllows.refused e) f refl)
-answer-tells s words names text (HostSheet.answered (SheetAllows.never-settles e A m n)) = inr (never-settled, refl, omega arith)
-answer-tells s words names text (HostSheet.answered (SheetAllows.does-not-fit {x} {I} e i h)) = inr (text-room-too-small (length (sheetOf s x I)), refl, omega arith)
-answer-tells s words names text (HostSheet.answered (SheetAllows.accepted {x} {I} e i h)) = inl (value-sheet-is-short s (length words / 2) (length names / 4) x I e)
+    let p = packs s (length words / 2) (length names / 4) text (SheetAllows.refused e) f refl in
+    inr (f, inl e, refl, p .1, p .0 .place-small)
+answer-tells s words names text (HostSheet.answered (SheetAllows.never-settles {x} e A m n)) = absurd (n (sheet-settles s (length words / 2) (length names / 4) x e A m))
+answer-tells s words names text (HostSheet.answered (SheetAllows.does-not-fit {x} {I} e i h)) =
+    inr (text-room-too-small (length (sheetOf s x I)), inr (x, I, e, i, h, refl), refl, omega arith, value-sheet-is-short s (length words / 2) (length names / 4) x I e)
+answer-tells s words names text (HostSheet.answered (SheetAllows.accepted {x} {I} e i h)) =
+    inl (x, I, e, i, h, refl, value-sheet-is-short s (length words / 2) (length names / 4) x I e)

@@ -2,11 +2,13 @@
 use mathlib.Core.Bool.{Bool, true, false, not}
 use mathlib.Core.List.{List}
 use mathlib.Core.Logic.{_↔_, _≢_}
-use mathlib.Core.Path.{_≡_, refl, sym, ap, _∙_, subst, subst⁻¹, fun-ext}
+use mathlib.Core.Path.{_≡_, refl, sym, ap, ap₂, _∙_, fun-ext}
 use Prim.Native.Nat.{ℕ, _≤_, _<_, _+_}
 use native.Mathlib.Omega.{arith}
 use lib.Dec.{T, T-not}
 use lib.ListN.{length}
+use Rattle.refusal.specs.declared.Refusal.{Refusal}
+use Rattle.refusal.specs.Numbers.{not-settled}
 use Rattle.words.specs.declared.Checked.{Checked}
 use Rattle.words.specs.declared.Checked.the-variants.{Accepted, Refused}
 use Rattle.words.specs.Check.{AcceptedTable}
@@ -16,20 +18,22 @@ use Rattle.paper.specs.Rules.{positive, _∈_}
 use Rattle.paper.specs.Definitions.{Interpretation, value, Smallest}
 use Rattle.paper.specs.Marking.{Marks, Marked, CanBeMarked, Settled, inconsistent, count, settledValue}
 use Rattle.paper.proofs.Existence.{pass-marks-one, passes-settle}
+use Rattle.paper.proofs.Order.{can-be-marked-below, settled-equal}
 use Rattle.paper.proofs.Smallest.{settledValue-is-smallest, marks-are-inconsistent}
 use Rattle.paper.proofs.Counting.{count-≡}
 use Rattle.bits.specs.Sets.{member, putIn}
-use Rattle.bits.proofs.Laws.{member-putIn-other}
+use Rattle.bits.proofs.Laws.{member-putIn-other, same-members}
 use Rattle.marking.specs.Faults.{recordFault, pickFault, reportFault}
 use Rattle.marking.proofs.Accepted.{good-record}
 use Rattle.picks.specs.declared.MarkRecord.{MarkRecord}
 use Rattle.picks.specs.declared.PickAnswer.{PickAnswer}
+use Rattle.picks.specs.declared.SettledAnswer.{SettledAnswer}
 use Rattle.picks.specs.declared.ReportAnswer.{ReportAnswer}
 use Rattle.picks.specs.declared.CountAnswer.{CountAnswer}
-use Rattle.picks.specs.Entries.{marksOf, noMarksFor, withMarks, PickAllows, ReportAllows, CountAllows, written}
+use Rattle.picks.specs.Entries.{marksOf, noMarksFor, withMarks, PickAllows, SettledAllows, ReportAllows, CountAllows, written}
 use Rattle.picks.specs.Traces.{Picks, PickPasses}
-use Rattle.picks.proofs.Tracing.{RecordFor, fresh-for, picks-pass, picks-marking, passes-passes}
-use Rattle.picks.proofs.Faultless.{reports, counts}
+use Rattle.picks.proofs.Tracing.{RecordFor, fresh-for, pick-not-refused, picks-pass, picks-marking, passes-passes}
+use Rattle.picks.proofs.Faultless.{settled-not-refused, only-before-settled, reports, counts}
 
 -- a pick touches no other atom's mark, and not N
 pub only-its-own-atom : {r r′ : MarkRecord} {t : List ℕ} {a : ℕ} {answer : PickAnswer} → PickAllows r t a answer r′ → (r′ .n ≡ r .n) × ((b : ℕ) → b ≢ a → marksOf r′ b ≡ marksOf r b)
@@ -38,16 +42,42 @@ only-its-own-atom (PickAllows.already-marked e m) = (refl, λ b n. refl)
 only-its-own-atom {r} {a = a} (PickAllows.marked e c) = (refl, λ b n. member-putIn-other (r .marks) a b n)
 only-its-own-atom (PickAllows.cannot-be-marked-now e u n) = (refl, λ b n′. refl)
 
--- an accepted pick answers `marked` exactly when its atom can be marked
-pub marks-exactly-when-it-may : {r r′ : MarkRecord} {t : List ℕ} {a : ℕ} {answer : PickAnswer} → PickAllows r t a answer r′ → pickFault (r .n) (marksOf r) t a ≡ Accepted
-    → (answer ≡ PickAnswer.Marked) ↔ CanBeMarked (rulesOf t) (marksOf r) a
-marks-exactly-when-it-may (PickAllows.refused {f} e) h = absurd (refused≢accepted f (sym e ∙ h))
+-- a pick answers `marked` exactly when its atom can be marked, if it is not refused there
+marks-exactly-when-it-may : {r r′ : MarkRecord} {t : List ℕ} {a : ℕ} {answer : PickAnswer} → PickAllows r t a answer r′
+    → (CanBeMarked (rulesOf t) (marksOf r) a → pickFault (r .n) (marksOf r) t a ≡ Accepted) → (answer ≡ PickAnswer.Marked) ↔ CanBeMarked (rulesOf t) (marksOf r) a
+marks-exactly-when-it-may (PickAllows.refused {f} e) h = ((λ p. let z : _≡_ {A = ℕ} 0 1 = cc in absurd (omega arith)), λ c. absurd (refused≢accepted f (sym e ∙ h c)))
 marks-exactly-when-it-may {r} {a = a} (PickAllows.already-marked e m) h =
     ((λ p. let z : _≡_ {A = ℕ} 0 1 = cc in absurd (omega arith)), λ c. absurd (T-not (marksOf r a) (c .unmarked) m))
 marks-exactly-when-it-may (PickAllows.marked e c) h = ((λ p. c), λ d. refl)
 marks-exactly-when-it-may (PickAllows.cannot-be-marked-now e u n) h = ((λ p. let z : _≡_ {A = ℕ} 0 1 = cc in absurd (omega arith)), λ c. absurd (n c))
 
 module _ (N : ℕ) (t : List ℕ) (accepted : AcceptedTable N t) {l : List ℕ} {r : MarkRecord} (picks : Picks t (noMarksFor N) l r) where
+  reached : RecordFor N r
+  reached = picks-marking N t accepted picks .0
+
+  -- a pick marks its own atom exactly when it may
+  pub marks-when-it-may : (a : ℕ) {answer : PickAnswer} {r′ : MarkRecord} → PickAllows r t a answer r′ → (answer ≡ PickAnswer.Marked) ↔ CanBeMarked (rulesOf t) (marksOf r) a
+  marks-when-it-may a o =
+      marks-exactly-when-it-may o
+      (λ c. pick-not-refused N t accepted r reached a (can-be-marked-below (rulesOf t) N (accepted-heads N t accepted) (marksOf r) a c))
+
+  -- nothing is refused that a caller could mean
+  pub pick-never-refused : (a : ℕ) → a < N → {answer : PickAnswer} {r′ : MarkRecord} → PickAllows r t a answer r′ → (f : Refusal) → answer ≡ PickAnswer.Refused f → ⊥
+  pick-never-refused a lt (PickAllows.refused {f} e) g same = refused≢accepted f (sym e ∙ pick-not-refused N t accepted r reached a lt)
+  pick-never-refused a lt (PickAllows.already-marked e m) g same = absurd (let z : _≡_ {A = ℕ} 0 1 = cc in omega arith)
+  pick-never-refused a lt (PickAllows.marked e c) g same = absurd (let z : _≡_ {A = ℕ} 0 1 = cc in omega arith)
+  pick-never-refused a lt (PickAllows.cannot-be-marked-now e u n) g same = absurd (let z : _≡_ {A = ℕ} 0 1 = cc in omega arith)
+
+  pub settled-never-refused : {answer : SettledAnswer} → SettledAllows r t answer → (f : Refusal) → answer ≡ SettledAnswer.Refused f → ⊥
+  settled-never-refused o = settled-not-refused N t accepted r reached o
+
+  pub report-refused-before-settled : (room : List ℕ) → N ≤ length room → {answer : ReportAnswer} {room′ : List ℕ} → ReportAllows r t room answer room′
+      → (f : Refusal) → answer ≡ ReportAnswer.Refused f → (f ≡ not-settled) × (Settled (rulesOf t) (marksOf r) → ⊥)
+  report-refused-before-settled room fits o = only-before-settled N t accepted r reached room fits o
+
+  pub count-never-refused : {answer : CountAnswer} → CountAllows r answer → answer ≡ CountAnswer.Marks (count 512 (marksOf r))
+  count-never-refused o = counts N t accepted r reached o
+
   -- as soon as no atom can be marked, the report's values are those of the smallest well-supported model
   pub report-after-picks : Settled (rulesOf t) (marksOf r) → (I : Interpretation) → Smallest (rulesOf t) I → (room : List ℕ) → N ≤ length room
       → {answer : ReportAnswer} {room′ : List ℕ} → ReportAllows r t room answer room′ → (answer ≡ ReportAnswer.Reported) × (room′ ≡ written (λ a. value I (positive a)) N room)
@@ -76,3 +106,14 @@ module _ (N : ℕ) (t : List ℕ) (accepted : AcceptedTable N t) {l : List ℕ} 
 -- so N passes settle
 pub n-passes-settle : (N : ℕ) (t : List ℕ) → AcceptedTable N t → {r : MarkRecord} → PickPasses t N N (noMarksFor N) r → Settled (rulesOf t) (marksOf r)
 n-passes-settle N t accepted p = passes-settle (rulesOf t) N (accepted-heads N t accepted) (passes-passes N t accepted (fresh-for N) p .1)
+
+-- two lists of picks that settle leave equal records
+pub same-record : (N : ℕ) (t : List ℕ) → AcceptedTable N t → {l l′ : List ℕ} {r r′ : MarkRecord} → Picks t (noMarksFor N) l r → Picks t (noMarksFor N) l′ r′
+    → Settled (rulesOf t) (marksOf r) → Settled (rulesOf t) (marksOf r′) → r ≡ r′
+same-record N t accepted {r = r} {r′ = r′} picks picks′ s s′ =
+    let q = picks-marking N t accepted picks in
+    let q′ = picks-marking N t accepted picks′ in
+    let marks : r .marks ≡ r′ .marks =
+    same-members (r .marks) (r′ .marks) (q .0 .words) (q′ .0 .words) (q .0 .eight ∙ sym (q′ .0 .eight)) (settled-equal (rulesOf t) (marksOf r) (marksOf r′) (q .1 .1) s (q′ .1 .1) s′)
+    in
+    ap₂ (λ (n : ℕ) (m : List ℕ). withMarks (record { n = n; marks = m }) m) (q .0 .same-n ∙ sym (q′ .0 .same-n)) marks

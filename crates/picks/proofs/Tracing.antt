@@ -19,8 +19,8 @@ use Rattle.paper.specs.Rules.{Rule, _∈_}
 use Rattle.paper.specs.Marking.{Marks, Marked, Unmarked, CanBeMarked, Settled, Marking, none, mark, noMarks, Pass, end, marks, leaves, Passes, no-pass, then-pass}
 use Rattle.paper.proofs.Order.{can-be-marked-below, pass-marking}
 use Rattle.paper.proofs.Leasts.{mark-cases}
-use Rattle.bits.specs.Sets.{member, putIn}
-use Rattle.bits.proofs.Laws.{member-putIn, member-putIn-other, length-putIn, member-of-zeros}
+use Rattle.bits.specs.Sets.{member, putIn, Words}
+use Rattle.bits.proofs.Laws.{member-putIn, length-putIn, member-of-zeros, words-of-zeros, words-putIn}
 use Rattle.marking.specs.Faults.{recordFault, pickFault, atomFault}
 use Rattle.marking.proofs.Accepted.{pick-accepted, good-record}
 use Rattle.picks.specs.declared.MarkRecord.{MarkRecord}
@@ -28,14 +28,15 @@ use Rattle.picks.specs.declared.PickAnswer.{PickAnswer}
 use Rattle.picks.specs.Entries.{marksOf, noMarksFor, PickAllows}
 use Rattle.picks.specs.Traces.{Picks, no-picks, then-picks, PickPasses}
 
--- a record for N atoms: eight words, and marks below N
+-- a record for N atoms: eight words of 64 bits, and marks below N
 pub record RecordFor (N : ℕ) (r : MarkRecord) : Type 0 where
   pub same-n : r .n ≡ N
   pub eight : length (r .marks) ≡ 8
+  pub words : Words (r .marks)
   pub below : (a : ℕ) → T (marksOf r a) → a < N
 
 pub fresh-for : (N : ℕ) → RecordFor N (noMarksFor N)
-fresh-for N = record { same-n = refl; eight = refl; below = λ a h. absurd (subst T (member-of-zeros 8 a) h) }
+fresh-for N = record { same-n = refl; eight = refl; words = words-of-zeros 8; below = λ a h. absurd (subst T (member-of-zeros 8 a) h) }
 
 pub fresh-marks : (N : ℕ) → marksOf (noMarksFor N) ≡ noMarks
 fresh-marks N = mathlib.Core.Path.fun-ext (member-of-zeros 8)
@@ -65,6 +66,7 @@ module _ (N : ℕ) (t : List ℕ) (accepted : AcceptedTable N t) where
         record {
           same-n = g .same-n;
           eight = length-putIn (r .marks) a ∙ g .eight;
+          words = words-putIn (r .marks) a (g .words);
           below = λ b h. ⊎-elim (λ (x : b ≡ a). rw x lt) (λ (x : T (marksOf r b)). g .below b x) (mark-cases (marksOf r) a b (subst (λ (A : ℕ → Bool). T (A b)) m h));
         },
         λ rest B p. marks c (subst (λ (A : ℕ → Bool). Pass (rulesOf t) A rest B) m p),

@@ -205,9 +205,10 @@ stays (Refused r) p h = refl
 stays (Literal l) p h = absurd h
 
 -- after the end or a refusal it gives the same reading again, at the same place
-pub same-again : (s : List ℕ) (p : ℕ) → NoLiteral (readingAt s p) → nextAt s (nextAt s p .place) ≡ nextAt s p
+pub same-again : (s : List ℕ) (p : ℕ) (x y : Next) → x ≡ nextAt s p → y ≡ nextAt s (x .place) → NoLiteral (x .reading) → y ≡ x
 unfolding nextAt
-same-again s p h = ap (nextAt s) (stays (readingAt s p) p h)
+same-again s p x y e e′ h =
+    e′ ∙ ap (λ (z : Next). nextAt s (z .place)) e ∙ ap (nextAt s) (stays (readingAt s p) p (subst NoLiteral (ap (λ (z : Next). z .reading) e) h)) ∙ sym e
 
 reached-stays : (s : List ℕ) (n p : ℕ) → NoLiteral (readingAt s p) → reached s p n ≡ p
 unfolding nextAt

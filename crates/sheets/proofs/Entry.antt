@@ -123,7 +123,7 @@ held-by : (s : List ℕ) (wordRoom nameRoom n w : ℕ) (ws ns heads : List ℕ) 
 held-by s wordRoom nameRoom n w ws ns heads (accepted x) e into =
     let atoms : n ≡ length (x .names) = cc (into .answer) in
     let filled : w ≡ length (wordsOf (x .rules)) = cc (into .answer) in
-    record { sofar = x; is = e; words-are = into .words-are; names-are = into .names-are; heads-are = into .heads-are x refl; atoms = atoms; filled = filled }
+    record { sofar = x; is = e; words-are = into .words-are; names-are = into .names-are; heads-are = into .heads-are x refl .are; atoms = atoms; filled = filled }
 held-by s wordRoom nameRoom n w ws ns heads (refused r) e into = absurd (read-is-not-refused n w r (into .answer))
 
 refused-by : (s : List ℕ) (wordRoom nameRoom : ℕ) (r : Refusal) (text ws ns heads : List ℕ) (o : Outcome) → sheetOutcome s wordRoom nameRoom ≡ o

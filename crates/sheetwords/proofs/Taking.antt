@@ -41,21 +41,21 @@ faultless-allowed names repeated body words p q e =
     }
 
 module _ (s : List ℕ) (p : ℕ) (l : SheetLiteral) (k : Counts) (ws names heads : List ℕ) (a c : ℕ) (f : Checked)
-    (number : a ≡ atomIn s k names l) (code : c ≡ codeFor (l .negated) a) (fault : f ≡ faultBy a c k ws heads p l) (ws′ names′ heads′ : List ℕ) where
+    (number : a ≡ atomIn s k names l) (code : c ≡ codeFor (l .negated) a) (fault : f ≡ faultBy a c k ws heads p l) where
   code-is : c ≡ codeIn s k names l
   code-is = code ∙ ap (codeFor (l .negated)) number
 
   fault-is : faultIn s k ws names heads p l ≡ f
   fault-is = sym (fault ∙ ap₂ (λ (x y : ℕ). faultBy x y k ws heads p l) number code-is)
 
-  pub took-off : (x : Refusal) → f ≡ Refused x → Took s p l k ws names heads (Off x) ws′ names′ heads′
+  pub took-off : (x : Refusal) → f ≡ Refused x → Took s p l k ws names heads (Off x) ws names heads
   took-off x e = record {
     faultless = λ h. absurd (refused-is-not-accepted x (sym e ∙ sym fault-is ∙ h));
-    faulty = λ y h. let same : Refused x ≡ Refused y = sym e ∙ sym fault-is ∙ h in (cc);
+    faulty = λ y h. let same : Refused x ≡ Refused y = sym e ∙ sym fault-is ∙ h in (cc, refl, refl, refl);
   }
 
-  pub took-on : (k′ : Counts) → f ≡ Accepted → Put a c l k ws names heads k′ ws′ names′ heads′ → Took s p l k ws names heads (On k′) ws′ names′ heads′
-  took-on k′ e put = record {
+  pub took-on : (ws′ names′ heads′ : List ℕ) (k′ : Counts) → f ≡ Accepted → Put a c l k ws names heads k′ ws′ names′ heads′ → Took s p l k ws names heads (On k′) ws′ names′ heads′
+  took-on ws′ names′ heads′ k′ e put = record {
     faultless = λ h. (
       k′,
       refl,

@@ -9,7 +9,6 @@ use borrow.Author.Tests.{le-leb, lt-leb}
 use Rattle.refusal.specs.Numbers.{sheet-too-long, buffer-too-small}
 use lib.ListN.{length, replicate, drop, drop-of-length-le}
 use Rattle.refusal.specs.declared.Refusal.{Refusal}
-use Rattle.bits.specs.Sets.{member}
 use Rattle.words.specs.declared.Checked.{Checked}
 use Rattle.words.specs.declared.Checked.the-variants.{Accepted, Refused}
 use Rattle.words.specs.Layout.{wordsOf}
@@ -24,8 +23,8 @@ use Rattle.sheetwords.specs.declared.Taken.{Taken}
 use Rattle.sheetwords.specs.declared.Taken.the-variants.{On, Off}
 use Rattle.sheetwords.specs.declared.Filled.{Filled}
 use Rattle.sheetwords.specs.declared.Filled.the-variants.{Read, Refused as NotRead}
-use Rattle.sheetwords.specs.Sheets.{Sofar, Outcome, accepted, refused, isHead, nothing, demanding, sheetFrom, sheetOutcome}
-use Rattle.sheetwords.specs.Buffers.{padded, faultIn, atomIn, codeIn, Put, Took, wordsIn, namesIn, answerOf, FilledBy, ReadInto}
+use Rattle.sheetwords.specs.Sheets.{Sofar, Outcome, accepted, refused, nothing, demanding, sheetFrom, sheetOutcome}
+use Rattle.sheetwords.specs.Buffers.{padded, faultIn, atomIn, codeIn, Put, Took, wordsIn, namesIn, answerOf, HeadsIn, FilledBy, ReadInto}
 use Rattle.sheetwords.proofs.Filling.{Filling, at-end, at-refusal, at-fault, at-literal}
 
 on-is-not-off : (k : Counts) (x : Refusal) → On k ≡ Off x → ⊥
@@ -61,7 +60,7 @@ module _ (s : List ℕ) (whole : Outcome) (p : ℕ) (k : Counts) (ws ns heads : 
         answer = ap₂ Read (inv .kept .atoms) (inv .kept .words) ∙ ap answerOf (sym done);
         words-are = λ x h. subst (λ (y : Sofar). ws ≡ padded (length ws) (wordsOf (y .rules))) (same x h) (inv .kept .in-words);
         names-are = λ x h. subst (λ (y : Sofar). ns ≡ padded (length ns) (y .names)) (same x h) (inv .kept .in-names);
-        heads-are = λ x h. subst (λ (y : Sofar). (j : ℕ) → member heads j ≡ isHead (y .rules) j) (same x h) (inv .kept .in-heads);
+        heads-are = λ x h. subst (λ (y : Sofar). HeadsIn heads (y .rules)) (same x h) (record { sixteen = inv .kept .heads-16; are = inv .kept .in-heads });
       }
 
   pub nothing-filled : (x : Refusal) (ws′ ns′ heads′ : List ℕ) → whole ≡ refused x → FilledBy whole (NotRead x) ws′ ns′ heads′
@@ -82,7 +81,7 @@ module _ (s : List ℕ) (whole : Outcome) (p : ℕ) (k : Counts) (ws ns heads : 
         by : (f : Checked) → faultIn s k ws ns heads p l ≡ f → FilledBy whole (NotRead x) ws′ ns′ heads′
         by Accepted q = let on = took .faultless q in absurd (on-is-not-off (on .0) x (sym (on .1) ∙ off))
         by (Refused y) q =
-            let same : Off y ≡ Off x = sym (took .faulty y q) ∙ off in
+            let same : Off y ≡ Off x = sym (took .faulty y q .0) ∙ off in
             nothing-filled x ws′ ns′ heads′
             (at-fault s whole p k ws ns heads inv l (read-is s p next (Literal l) e is) y q ∙ (let z : y ≡ x = cc in ap refused z))
 
@@ -90,7 +89,7 @@ module _ (s : List ℕ) (whole : Outcome) (p : ℕ) (k : Counts) (ws ns heads : 
     goes-on k′ on = by (faultIn s k ws ns heads p l) refl
       where
         by : (f : Checked) → faultIn s k ws ns heads p l ≡ f → Filling s whole (next .place) k′ ws′ ns′ heads′
-        by (Refused y) q = absurd (on-is-not-off k′ y (sym on ∙ took .faulty y q))
+        by (Refused y) q = absurd (on-is-not-off k′ y (sym on ∙ took .faulty y q .0))
         by Accepted q =
             let got = took .faultless q in
             let same : got .0 ≡ k′ = (let z : On (got .0) ≡ On k′ = sym (got .1) ∙ on in cc) in

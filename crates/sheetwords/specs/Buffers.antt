@@ -101,23 +101,28 @@ pub record Put (a c : ℕ) (l : SheetLiteral) (k : Counts) (ws names heads : Lis
   pub names-are : names′ ≡ putName a (k .atoms) (entryFor (l .start) (l .len)) names
   pub heads-are : heads′ ≡ putHead (l .role) c heads
 
--- a literal at p has been put into the buffers, unless it has a fault
+-- a literal at p has been put into the buffers; one with a fault leaves them as they were
 pub record Took (s : List ℕ) (p : ℕ) (l : SheetLiteral) (k : Counts) (ws names heads : List ℕ) (r : Taken) (ws′ names′ heads′ : List ℕ) : Type 0 where
   pub faultless : faultIn s k ws names heads p l ≡ Accepted
       → (k′ : Counts) × (r ≡ On k′) × Put (atomIn s k names l) (codeIn s k names l) l k ws names heads k′ ws′ names′ heads′
-  pub faulty : (x : Refusal) → faultIn s k ws names heads p l ≡ Faulty x → r ≡ Off x
+  pub faulty : (x : Refusal) → faultIn s k ws names heads p l ≡ Faulty x → (r ≡ Off x) × (ws′ ≡ ws) × (names′ ≡ names) × (heads′ ≡ heads)
+
+-- the flags are sixteen words, and their members the heads of the rules
+pub record HeadsIn (heads : List ℕ) (R : List Rule) : Type 0 where
+  pub sixteen : length heads ≡ 16
+  pub are : (j : ℕ) → member heads j ≡ isHead R j
 
 -- what filling the buffers leaves: the answer, and where the sheet is accepted its words, names and heads
 pub record FilledBy (o : Outcome) (r : Filled) (ws ns heads : List ℕ) : Type 0 where
   pub answer : r ≡ answerOf o
   pub words-are : (sofar : Sofar) → o ≡ accepted sofar → ws ≡ padded (length ws) (wordsOf (sofar .rules))
   pub names-are : (sofar : Sofar) → o ≡ accepted sofar → ns ≡ padded (length ns) (sofar .names)
-  pub heads-are : (sofar : Sofar) → o ≡ accepted sofar → (j : ℕ) → member heads j ≡ isHead (sofar .rules) j
+  pub heads-are : (sofar : Sofar) → o ≡ accepted sofar → HeadsIn heads (sofar .rules)
 
 -- a sheet has been read into buffers of so many entries: the answer, every word, every name entry, and the heads of an accepted sheet, none of a refused one
 pub record ReadInto (o : Outcome) (wordRoom nameRoom : ℕ) (r : Filled) (ws ns heads : List ℕ) : Type 0 where
   pub answer : r ≡ answerOf o
   pub words-are : ws ≡ padded wordRoom (wordsIn o)
   pub names-are : ns ≡ padded nameRoom (namesIn o)
-  pub heads-are : (sofar : Sofar) → o ≡ accepted sofar → (j : ℕ) → member heads j ≡ isHead (sofar .rules) j
+  pub heads-are : (sofar : Sofar) → o ≡ accepted sofar → HeadsIn heads (sofar .rules)
   pub heads-empty : (x : Refusal) → o ≡ refused x → heads ≡ replicate 16 0

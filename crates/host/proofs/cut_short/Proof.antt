@@ -16,7 +16,7 @@ enum-known-r c = search needs
 
 returns : tie.Need-returns
 returns c =
-    cut-refused _ _ _ _ _ (c .before .before .before .before .before .pre) (c .before .before .before .evaluation-fault .ensures) (c .before .r .given .1)
+    cut-refused _ _ _ _ _ (c .before .before .before .evaluation-fault .ensures) (c .before .r .given .1)
 
 enum-told : tie.Need-enum-told
 enum-told c = search needs

@@ -19,7 +19,7 @@ enum-known-r c = search needs
 
 pack-requires : tie.Need-pack-requires
 pack-requires c κs =
-    words-packable _ _ _ _ (c .before .before .before .before .before .evaluate .result) _ (c .before .before .before .before .before .before .before .before .before .pre) (c .before .before .before .before .before .evaluate .ensures) (c .before .r .given .1)
+    words-packable _ _ _ _ (c .before .before .before .before .before .evaluate .result) _ (c .before .before .before .before .before .evaluate .ensures) (c .before .r .given .1)
 
 same-length : tie.Need-same-length
 same-length c = search needs

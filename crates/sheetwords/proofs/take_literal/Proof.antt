@@ -28,7 +28,7 @@ same-length-3 c = search needs
 
 returns : tie.Need-returns
 returns c =
-    took-off (c .before .before .before .before .before .before .before .before .before .before .before .before .before .args .sheet .now) (c .before .before .before .before .before .before .before .before .before .before .before .before .before .args .place) (c .before .before .before .before .before .before .before .before .before .before .before .before .before .args .l) (c .before .before .before .before .before .before .before .before .before .before .before .before .before .args .counts) (c .before .before .before .before .before .before .before .before .before .before .before .before .before .args .words .now) (c .before .before .before .before .before .before .before .before .before .before .before .before .before .args .names .now) (c .before .before .before .before .before .before .before .before .before .before .before .before .before .args .heads .now) _ _ _ (c .before .before .before .before .before .before .before .number .ensures .0) (c .before .before .before .before .before .before .code-for .ensures .0) (c .before .before .before .fault-of .ensures) _ _ _ _ (c .before .r .given .1)
+    took-off (c .before .before .before .before .before .before .before .before .before .before .before .before .before .args .sheet .now) (c .before .before .before .before .before .before .before .before .before .before .before .before .before .args .place) (c .before .before .before .before .before .before .before .before .before .before .before .before .before .args .l) (c .before .before .before .before .before .before .before .before .before .before .before .before .before .args .counts) (c .before .before .before .before .before .before .before .before .before .before .before .before .before .args .words .now) (c .before .before .before .before .before .before .before .before .before .before .before .before .before .args .names .now) (c .before .before .before .before .before .before .before .before .before .before .before .before .before .args .heads .now) _ _ _ (c .before .before .before .before .before .before .before .number .ensures .0) (c .before .before .before .before .before .before .code-for .ensures .0) (c .before .before .before .fault-of .ensures) _ (c .before .r .given .1)
 
 enum-told : tie.Need-enum-told
 enum-told c = search needs
