@@ -1,21 +1,19 @@
 -- P1 to P12: each is computed, and the computation is what the definitions say. Assumes nothing.
-use mathlib.Core.Bool.{Bool, true, false, not, _&&_, cond}
-use mathlib.Core.List.{List, [], _∷_, List·Memᴰ·head, List·Memᴰ·tail, List·Memᴰ·cases-cons, List·Memᴰ·not-nil, List·Memᴰ·eq-of-singleton}
-use mathlib.Core.Logic.{_⊎_, inl, inr, ⊎-elim, _↔_}
+use mathlib.Core.Bool.{Bool, true, false, not, _&&_}
+use mathlib.Core.List.{List, [], _∷_, List·Memᴰ·cases-cons, List·Memᴰ·not-nil}
+use mathlib.Core.Logic.{_⊎_, ⊎-elim}
 use mathlib.Core.Path.{_≡_, refl, subst, subst⁻¹, sym, ap, _∙_}
-use Prim.Native.Nat.{ℕ, zero, suc, _≤_, _<_, _*_}
-use native.Mathlib.Omega.{arith}
-use lib.Dec.{T, T-not, eqb, eqb→eq, eqb-refl, ltb, ltb→lt, lt→ltb}
-use Rattle.paper.specs.Table1.{Value, 𝐟, 𝐮, 𝐢, 𝐭, code, _implies_}
-use Rattle.paper.specs.Rules.{Rule, IsRuleOf, OneRulePerHead, HeadsBelow, positive, negative, negation, _∈_}
-use Rattle.paper.specs.Definitions.{Interpretation, value, groupValue, anyValue, bodyValue, Smallest, WellSupportedByTest, SupportsRuleOf, RestsOnInconsistent}
+use Prim.Native.Nat.{ℕ, zero, suc, _*_}
+use lib.Dec.{T, T-not, eqb, eqb-refl, ltb, ltb→lt}
+use Rattle.paper.specs.Rules.{Rule, OneRulePerHead, HeadsBelow, _∈_}
+use Rattle.paper.specs.Definitions.{Interpretation, Model, WellSupported, SmallestWellSupported}
 use Rattle.paper.specs.Marking.{Marks, Marking, Settled, count, inconsistent}
-use Rattle.paper.specs.Examples.{Example, Says, AlsoWellSupported, valuesFrom, examples, P1, P2, P3, P4, P5, P6, P7, P8, P9, P10, P11, P12, allLiterals, OnlyAModel, allButNegativeB}
-use Rattle.paper.proofs.Tests.{and-left, and-right, refuted→false, T→true}
+use Rattle.paper.specs.Examples.{Example, Says, valuesFrom, allLiterals, examples, P1, P2, P3, P4, P5, P6, P7, P8, P9, P10, P11, P12}
+use Rattle.paper.proofs.Tests.{and-left, and-right}
+use Rattle.paper.proofs.OtherModels.{each, no-more, P2-all, P6-all, P10-only-a-model}
 use Rattle.paper.proofs.Closure.{heldSet}
-use Rattle.paper.proofs.Checker.{checked→supported}
-use Rattle.paper.proofs.Existence.{settledMarks, atomsOf}
-use Rattle.paper.proofs.Smallest.{smallestSet, smallestSet-is, smallest-unique, marks-made-are-inconsistent}
+use Rattle.paper.proofs.Existence.{settledMarks, settledMarks-is, atomsOf, atomsOf-enough}
+use Rattle.paper.proofs.Smallest.{smallestSet, smallestSet-is, smallestSet-is-any, smallest-any-unique, marks-made-are-inconsistent}
 
 -- heads that differ from a given one; all different; all below
 abbrev apart : ℕ → List Rule → Bool
@@ -62,82 +60,46 @@ headsBelow→ N (σ ∷ R) t ρ m =
 abbrev model : Example → Interpretation
 model e = heldSet (e .rules) (settledMarks (e .rules) (atomsOf (e .rules)))
 
-says : (e : Example) → T (distinct (e .rules)) → T (headsBelow (e .atoms) (e .rules)) → valuesFrom (model e) 0 (e .atoms) ≡ e .values
-    → count (e .atoms) (inconsistent (model e)) ≡ e .made → Says e
+-- a set with a literal that the smallest model lacks is not the smallest
+lacks : (e : Example) → T (distinct (e .rules)) → (J : Interpretation) (l : ℕ) → T (J l) → T (not (model e l)) → SmallestWellSupported (e .rules) J → ⊥
 unfolding smallestSet
-says e d b v c =
+lacks e d J l m n i =
+    T-not (model e l) n (i .contained (model e) (smallestSet-is-any (e .rules) (distinct→one (e .rules) d) .well-supported) l m)
+
+says : (e : Example) → T (distinct (e .rules)) → T (headsBelow (e .atoms) (e .rules)) → valuesFrom (model e) 0 (e .atoms) ≡ e .values
+    → count (e .atoms) (inconsistent (model e)) ≡ e .made
+    → ((J : Interpretation) → J ∈ e .also → WellSupported (e .rules) J × (SmallestWellSupported (e .rules) J → ⊥))
+    → ((J : Interpretation) → J ∈ e .only-models → Model (e .rules) J × (WellSupported (e .rules) J → ⊥)) → Says e
+unfolding smallestSet
+says e d b v c also only =
     let one : OneRulePerHead (e .rules) = distinct→one (e .rules) d in
+    let made : ((n : ℕ) (A : Marks) → Marking (e .rules) n A → Settled (e .rules) A → n ≡ e .made) = λ n A k s.
+    marks-made-are-inconsistent (e .rules) one k s (model e) (smallestSet-is (e .rules) one) (e .atoms) (headsBelow→ (e .atoms) (e .rules) b) ∙ c in
+    let A : Marks = settledMarks (e .rules) (atomsOf (e .rules)) in
+    let k = settledMarks-is (e .rules) (atomsOf (e .rules)) (atomsOf-enough (e .rules)) in
     record {
       one-rule-per-head = one;
-      smallest = λ I i. ap (λ (J : Interpretation). valuesFrom J 0 (e .atoms)) (smallest-unique (e .rules) I (model e) i (smallestSet-is (e .rules) one)) ∙ v;
-      exists = (model e, smallestSet-is (e .rules) one);
-      marks-made = λ n A k s.
-          marks-made-are-inconsistent (e .rules) one k s (model e) (smallestSet-is (e .rules) one) (e .atoms) (headsBelow→ (e .atoms) (e .rules) b) ∙ c;
+      smallest = λ I i. ap (λ (J : Interpretation). valuesFrom J 0 (e .atoms)) (smallest-any-unique (e .rules) I (model e) i (smallestSet-is-any (e .rules) one)) ∙ v;
+      exists = (model e, smallestSet-is-any (e .rules) one);
+      marks-made = made;
+      settles = (A, subst (λ (n : ℕ). Marking (e .rules) n A) (made (k .0) A (k .1) (k .2)) (k .1), k .2);
+      also-well-supported = also;
+      only-a-model = only;
     }
 
--- a statement of each member of a list
-each : {A : Type 0} (P : A → Type 0) {x : A} {l : List A} → P x → ((y : A) → y ∈ l → P y) → (y : A) → y ∈ (x ∷ l) → P y
-each P h f y m = ⊎-elim (λ e. subst⁻¹ P e h) (λ k. f y k) (List·Memᴰ·cases-cons m)
+-- an example that speaks of no other set
+alone : (e : Example) → T (distinct (e .rules)) → T (headsBelow (e .atoms) (e .rules)) → valuesFrom (model e) 0 (e .atoms) ≡ e .values
+    → count (e .atoms) (inconsistent (model e)) ≡ e .made → e .also ≡ [] → e .only-models ≡ [] → Says e
+alone e d b v c a o =
+    says e d b v c (λ J m. no-more (subst (λ (l : List Interpretation). J ∈ l) a m)) (λ J m. no-more (subst (λ (l : List Interpretation). J ∈ l) o m))
 
 pub all-say : (e : Example) → e ∈ examples → Says e
 unfolding atomsOf count
 all-say =
-    each Says (says P1 tt tt refl refl) (each Says (says P2 tt tt refl refl) (each Says (says P3 tt tt refl refl)
-    (each Says (says P4 tt tt refl refl) (each Says (says P5 tt tt refl refl) (each Says (says P6 tt tt refl refl)
-    (each Says (says P7 tt tt refl refl) (each Says (says P8 tt tt refl refl) (each Says (says P9 tt tt refl refl)
-    (each Says (says P10 tt tt refl refl) (each Says (says P11 tt tt refl refl) (each Says (says P12 tt tt refl refl)
-    (λ y m. absurd (List·Memᴰ·not-nil m)))))))))))))
-
--- the places of the literals l, -l, c, -c in P6: l and -c before c and -l
-abbrev placeP6 : ℕ → ℕ
-placeP6 zero = 0
-placeP6 (suc zero) = 1
-placeP6 (suc (suc zero)) = 1
-placeP6 (suc (suc (suc l))) = 0
-
--- the smallest model lacks a literal
-lacks : (e : Example) → T (distinct (e .rules)) → (l : ℕ) → T (allLiterals (e .atoms) l) → T (not (model e l)) → Smallest (e .rules) (allLiterals (e .atoms)) → ⊥
-unfolding smallestSet
-lacks e d l m n i =
-    T-not (model e l) n (i .contained (model e) (smallestSet-is (e .rules) (distinct→one (e .rules) d) .well-supported) l m)
-
--- b before -b; both rest on "-b: b" (condition 8)
-pub P2-also : AlsoWellSupported P2
-unfolding bodyValue anyValue groupValue atomsOf
-P2-also = record { well-supported = checked→supported 1 (P2 .rules) (allLiterals 1) (λ l. l) (λ l m. m) tt; not-smallest = lacks P2 tt 0 tt tt }
-
--- -c rests on "c: l" (condition 8), measured at c
-pub P6-also : AlsoWellSupported P6
-unfolding bodyValue anyValue groupValue atomsOf
-P6-also = record { well-supported = checked→supported 2 (P6 .rules) (allLiterals 2) placeP6 (λ l m. m) tt; not-smallest = lacks P6 tt 1 tt tt }
-
--- neither rule(-p), which is not there, nor rule(p), whose body is t, serves -p
-pub P10-only-a-model : OnlyAModel P10 allButNegativeB
-unfolding bodyValue anyValue groupValue
-P10-only-a-model =
-    record {
-      model = each (λ ρ. (bodyValue I (ρ .groups) implies value I (ρ .head)) ≡ 𝐭) refl (each (λ ρ. (bodyValue I (ρ .groups) implies value I (ρ .head)) ≡ 𝐭) refl
-          (each (λ ρ. (bodyValue I (ρ .groups) implies value I (ρ .head)) ≡ 𝐭) refl
-          (each (λ ρ. (bodyValue I (ρ .groups) implies value I (ρ .head)) ≡ 𝐭) refl (λ ρ m. absurd (List·Memᴰ·not-nil m)))));
-      not-well-supported = λ w.
-          ⊎-elim (λ (s : SupportsRuleOf (P10 .rules) I (λ x y. T (w .0 x y)) (negative 2)). none-of (s .0) (s .1 .0) (s .1 .1))
-          (λ (s : RestsOnInconsistent (P10 .rules) I (λ x y. T (w .0 x y)) (negative 2)).
-          ⊎-elim (λ (r : IsRuleOf (P10 .rules) (negative 2) (s .0)). none-of (s .0) (r .0) (r .1))
-          (λ (r : IsRuleOf (P10 .rules) (negation (negative 2)) (s .0)). not-exactly-i (s .0) (r .0) (r .1) (s .2)) (s .1))
-          (w .1 .condition-7-or-8 (negative 2) tt refl);
-    }
-  where
-    I : Interpretation
-    I = allButNegativeB
-
-    none-of : (ρ : Rule) → ρ ∈ P10 .rules → ρ .head ≡ 5 → ⊥
-    none-of =
-        each (λ ρ. ρ .head ≡ 5 → ⊥) (λ e. omega arith) (each (λ ρ. ρ .head ≡ 5 → ⊥) (λ e. omega arith)
-        (each (λ ρ. ρ .head ≡ 5 → ⊥) (λ e. omega arith) (each (λ ρ. ρ .head ≡ 5 → ⊥) (λ e. omega arith) (λ ρ m. absurd (List·Memᴰ·not-nil m)))))
-
-    not-exactly-i : (ρ : Rule) → ρ ∈ P10 .rules → ρ .head ≡ 4 → bodyValue I (ρ .groups) ≡ 𝐢 → ⊥
-    not-exactly-i =
-        each (λ ρ. ρ .head ≡ 4 → bodyValue I (ρ .groups) ≡ 𝐢 → ⊥) (λ e b. omega arith)
-        (each (λ ρ. ρ .head ≡ 4 → bodyValue I (ρ .groups) ≡ 𝐢 → ⊥) (λ e b. omega arith)
-        (each (λ ρ. ρ .head ≡ 4 → bodyValue I (ρ .groups) ≡ 𝐢 → ⊥) (λ e b. omega arith)
-        (each (λ ρ. ρ .head ≡ 4 → bodyValue I (ρ .groups) ≡ 𝐢 → ⊥) (λ e b. let c : _≡_ {A = ℕ} 3 2 = ap code b in omega arith) (λ ρ m. absurd (List·Memᴰ·not-nil m)))))
+    each (alone P1 tt tt refl refl refl refl)
+    (each (says P2 tt tt refl refl (each (P2-all, lacks P2 tt (allLiterals 1) 0 tt tt) (λ J m. no-more m)) (λ J m. no-more m))
+    (each (alone P3 tt tt refl refl refl refl) (each (alone P4 tt tt refl refl refl refl) (each (alone P5 tt tt refl refl refl refl)
+    (each (says P6 tt tt refl refl (each (P6-all, lacks P6 tt (allLiterals 2) 1 tt tt) (λ J m. no-more m)) (λ J m. no-more m))
+    (each (alone P7 tt tt refl refl refl refl) (each (alone P8 tt tt refl refl refl refl) (each (alone P9 tt tt refl refl refl refl)
+    (each (says P10 tt tt refl refl (λ J m. no-more m) (each P10-only-a-model (λ J m. no-more m)))
+    (each (alone P11 tt tt refl refl refl refl) (each (alone P12 tt tt refl refl refl refl) (λ e m. no-more m))))))))))))

@@ -1,5 +1,6 @@
 -- Rooms of the proof, from the leaves up; Theorems holds the public statements.
 pub mod Tests
+pub mod OtherModels
 pub mod Values
 pub mod Leasts
 pub mod Closure
@@ -10,6 +11,5 @@ pub mod Counting
 pub mod Order
 pub mod Existence
 pub mod Smallest
-pub mod Checker
 pub mod Examples
 pub mod Theorems

@@ -8,7 +8,7 @@ use Rattle.paper.specs.Table1.{𝐢, not′}
 use Rattle.paper.specs.Rules.{Rule, OneRulePerHead, HeadsBelow, positive, negation, _∈_}
 use Rattle.paper.specs.Definitions.{Interpretation, value, bodyValue, Model, WellSupported, SmallestWellSupported, Smallest, _⊆_}
 use Rattle.paper.specs.Marking.{Marks, Marked, Unmarked, CanBeMarked, Settled, Marking, noMarks, count, Pass, Passes, IsHeld, inconsistent, settledValue}
-use Rattle.paper.specs.Examples.{Example, Says, AlsoWellSupported, OnlyAModel, allButNegativeB, examples, P2, P6, P10}
+use Rattle.paper.specs.Examples.{Example, Says, examples}
 use Rattle.paper.proofs.Values.{𝐢-implies, value-negation}
 use Rattle.paper.proofs.Leasts.{can-be-marked-mono}
 use Rattle.paper.proofs.Settled as rooms-settled
@@ -84,17 +84,6 @@ settled-values-of-any-marks R A s H h a = rooms-settled.settledValue-is R A H h 
 -- 4. P1 to P12
 pub examples-say : (e : Example) → e ∈ examples → Says e
 examples-say = rooms-examples.all-say
-
--- in P2 {b, -b} and in P6 all four literals are also well-supported, and are not the smallest
-pub P2-has-a-second : AlsoWellSupported P2
-P2-has-a-second = rooms-examples.P2-also
-
-pub P6-has-a-second : AlsoWellSupported P6
-P6-has-a-second = rooms-examples.P6-also
-
--- (8) asks that the body is exactly i: a t body does not serve the negation
-pub P10-has-a-model-that-is-not : OnlyAModel P10 allButNegativeB
-P10-has-a-model-that-is-not = rooms-examples.P10-only-a-model
 
 -- "p: a" with a i makes p i, not t: in a model the head of an i body is i
 pub inconsistent-body-makes-head-inconsistent : (R : List Rule) (I : Interpretation) → Model R I → (ρ : Rule) → ρ ∈ R → bodyValue I (ρ .groups) ≡ 𝐢 → value I (ρ .head) ≡ 𝐢
