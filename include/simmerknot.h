@@ -29,6 +29,7 @@
  * - It takes any bytes and any lengths, ends, and answers by one number; simmerknot_refused tells which kind it is.
  * - A pointer and the length after it name one lent buffer. Where the length is 0 any pointer will do, NULL too.
  * - No buffer that is written may overlap another lent buffer.
+ * - A buffer that is written is never read, so it may be uninitialised memory.
  * - Nothing outside the lent buffers is read or written, but less than 20 KiB of stack (measured, tests/stack.c). No memory is kept,
  *   taken or given back, so calls from several threads do not meet unless they lend the same buffer.
  */

@@ -1,9 +1,11 @@
 /* boundary PLACEMENT CASES: the two calls at the edges of every lent buffer.
  *
  * PLACEMENT says where a lent buffer lies:
- *   exact   an allocation of exactly its size, for AddressSanitizer and valgrind
- *   before  its last byte just before a page that can be neither read nor written
- *   after   its first byte just after such a page
+ *   exact      an allocation of exactly its size, for AddressSanitizer and valgrind
+ *   undefined  the same, and nothing is put into buffers that are only written, so valgrind tells a byte that is used before it is
+ *              written, or that should be written and is not
+ *   before     its last byte just before a page that can be neither read nor written
+ *   after      its first byte just after such a page
  * The archive is not instrumented, so a byte too far by its own code shows only against such a page or under valgrind. Where
  * pages are used, the table and the sheet lie in pages that cannot be written. After the written cases come CASES random ones
  * of each call. The last line is the number of calls checked; the first fault ends the run. */
@@ -15,7 +17,7 @@
 #include <sys/mman.h>
 #include <unistd.h>
 
-static enum { EXACT, BEFORE, AFTER } placement;
+static enum { EXACT, UNDEFINED, BEFORE, AFTER } placement;
 static unsigned long calls;
 static const char *what = "";
 
@@ -35,10 +37,11 @@ struct lent {
     size_t map_len;
 };
 
+/* A copy of the bytes; where they are NULL, nothing is put there. */
 static struct lent lend(const uint8_t *bytes, size_t len) {
     struct lent b = {NULL, len, NULL, 0};
     const size_t page = (size_t)sysconf(_SC_PAGESIZE), pages = (len + page - 1) / page * page;
-    if (placement == EXACT) {
+    if (placement == EXACT || placement == UNDEFINED) {
         b.at = malloc(len);
         check(b.at != NULL || len == 0, "no memory");
     } else {
@@ -48,7 +51,7 @@ static struct lent lend(const uint8_t *bytes, size_t len) {
         b.at = placement == BEFORE ? b.map + pages - len : b.map + page;
         check(mprotect(placement == BEFORE ? b.map + pages : b.map, page, PROT_NONE) == 0, "no guard");
     }
-    if (len) memcpy(b.at, bytes, len);
+    if (len && bytes) memcpy(b.at, bytes, len);
     return b;
 }
 
@@ -71,9 +74,11 @@ static void take_back(struct lent b) {
 static uint8_t filler(size_t i) { return (uint8_t)(0xa5 ^ (i * 7)); }
 
 static struct lent lend_filled(size_t len) {
-    uint8_t *bytes = malloc(len + 1);
+    uint8_t *bytes;
     struct lent b;
     size_t i;
+    if (placement == UNDEFINED) return lend(NULL, len);
+    bytes = malloc(len + 1);
     check(bytes != NULL, "no memory");
     for (i = 0; i < len; i++) bytes[i] = filler(i);
     b = lend(bytes, len);
@@ -83,6 +88,7 @@ static struct lent lend_filled(size_t len) {
 
 static void check_untouched(struct lent b, size_t from, const char *broken) {
     size_t i;
+    if (placement == UNDEFINED) return;
     for (i = from; i < b.len; i++) check(b.at[i] == filler(i), broken);
 }
 
@@ -450,7 +456,10 @@ static void random_rules(unsigned long count) {
 int main(int argc, char **argv) {
     unsigned long count;
     if (argc != 3) return 2;
-    placement = strcmp(argv[1], "exact") == 0 ? EXACT : strcmp(argv[1], "before") == 0 ? BEFORE : AFTER;
+    placement = strcmp(argv[1], "exact") == 0       ? EXACT
+                : strcmp(argv[1], "undefined") == 0 ? UNDEFINED
+                : strcmp(argv[1], "before") == 0    ? BEFORE
+                                                    : AFTER;
     count = strtoul(argv[2], NULL, 10);
     nulls();
     written_tables();

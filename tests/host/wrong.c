@@ -1,4 +1,5 @@
-/* Faults at the boundary that boundary.c must notice, by -DFAULT=1 to 10, laid around the real calls by the linker (--wrap). */
+/* Faults at the boundary that boundary.c must notice, by -DFAULT=1 to 13, laid around the real calls by the linker (--wrap). The last
+ * three show only where what is lent is undefined, under valgrind. */
 #include <simmerknot.h>
 #include <string.h>
 
@@ -16,6 +17,8 @@ uint64_t __wrap_simmerknot_evaluate(uint64_t n, const uint8_t *table, size_t tab
     /* 1, 2: one byte too many is read, behind the table or in front of it */
     if (FAULT == 1 && table_len) sink = table[table_len];
     if (FAULT == 2 && table_len) sink = *(table - 1);
+    /* 11: a value is looked at before it is written */
+    if (FAULT == 11 && values_len && values[0] > 3) sink = 1;
     answer = __real_simmerknot_evaluate(n, table, table_len, values, values_len);
     /* 3: a byte past the values; 4: a value written on a refusal; 5: the table used as room */
     if (FAULT == 3 && !simmerknot_refused(answer) && values_len > n) values[n] = 1;
@@ -29,6 +32,9 @@ uint64_t __wrap_simmerknot_sheet(const uint8_t *sheet, size_t sheet_len, uint8_t
     uint64_t answer;
     /* 6: one byte too many is read behind the sheet */
     if (FAULT == 6 && sheet_len) sink = sheet[sheet_len];
+    /* 12, 13: a word or the text is looked at before it is written */
+    if (FAULT == 12 && words_len && words[words_len - 1]) sink = 1;
+    if (FAULT == 13 && text_len && text[0]) sink = 1;
     answer = __real_simmerknot_sheet(sheet, sheet_len, words, words_len, names, names_len, text, text_len);
     /* 7: a surplus byte is cleared; 8: a refusal leaves an entry; 9: a byte past the value sheet; 10: entries past 8,192 stay */
     if (FAULT == 7 && words_len % 2) words[words_len - 1] = 0;

@@ -4,7 +4,7 @@ use mathlib.Core.List.{List, _++_}
 use Prim.Native.Nat.{ℕ, _<_, _≤_}
 use native.Mathlib.Nat.{le-refl}
 use native.Mathlib.Omega.{arith}
-use lib.ListN.{length, drop}
+use lib.ListN.{length, drop, length-append}
 use Rattle.refusal.specs.declared.Refusal.{Refusal}
 use Rattle.refusal.specs.Numbers.{text-room-too-small}
 use Rattle.paper.specs.Rules.{Rule, OneRulePerHead}
@@ -19,6 +19,7 @@ use Rattle.sheetwords.specs.Buffers.{padded}
 use Rattle.sheetwords.proofs.Turns.{accepted-is-not-refused, accepted-once}
 use Rattle.sheetwords.proofs.Laws.{sheet-table-accepted, sheet-table-rules}
 use Rattle.sheets.specs.declared.SheetAnswer.{SheetAnswer}
+use Rattle.sheets.specs.declared.SheetCounts.{SheetCounts}
 use Rattle.sheets.specs.SheetEntry.{sheetOf, counts, SheetAllows}
 use Rattle.sheets.proofs.Values.{no-fault}
 
@@ -76,3 +77,14 @@ module _ (s : List ℕ) (wordRoom nameRoom : ℕ) (text : List ℕ) where
         ap (λ (z : Sofar). padded nameRoom (z .names)) (same .0),
         ap₂ (λ (z : Sofar) (K : Interpretation). sheetOf s z K ++ drop (length (sheetOf s z K)) text) (same .0) (same .1),
       )
+
+-- an accepted sheet's value sheet lies within the text room
+pub accepted-fits : (s : List ℕ) (wordRoom nameRoom : ℕ) (text : List ℕ) {a : SheetAnswer} {ws ns text′ : List ℕ} → SheetAllows s wordRoom nameRoom text a ws ns text′
+    → (c : SheetCounts) → a ≡ SheetAnswer.Accepted c → c .bytes ≤ length text′
+accepted-fits s wordRoom nameRoom text (SheetAllows.refused e) c same = absurd (let z : _≡_ {A = ℕ} 0 1 = cc in omega arith)
+accepted-fits s wordRoom nameRoom text (SheetAllows.never-settles e A m n) c same = absurd (let z : _≡_ {A = ℕ} 0 1 = cc in omega arith)
+accepted-fits s wordRoom nameRoom text (SheetAllows.does-not-fit e i h) c same = absurd (let z : _≡_ {A = ℕ} 0 1 = cc in omega arith)
+accepted-fits s wordRoom nameRoom text (SheetAllows.accepted {x} {I} e i h) c same =
+    let v = sheetOf s x I in
+    let is : length v ≡ c .bytes = cc in
+    omega (arith, is, length-append v (drop (length v) text))
