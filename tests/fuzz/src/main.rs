@@ -1,4 +1,5 @@
-//! `fuzz SECONDS SEED [TARGET CASE]`: a third of the time for each of evaluation, the sheet entry and the program.
+//! `fuzz SECONDS SEED [TARGET CASE]`: a third of the time for each of evaluation, the sheet entry and the program, and at least a
+//! thousand cases, so that a slow machine meets every outcome too.
 //!
 //! The program is target/bin/simmer, or what SIMMER names. With a target and the number of a case, that case alone. Status 1 at the
 //! first case on which the two sides part, or where the engine left its buffers.
@@ -19,6 +20,9 @@ unsafe extern "C" {
 }
 
 static SEED: AtomicU64 = AtomicU64::new(0);
+
+/// Cases of each target, however long they take.
+const LEAST: u64 = 1000;
 
 /// A page was touched that must not be: names the case, and ends.
 extern "C" fn crashed(_signal: c_int) {
@@ -89,7 +93,7 @@ fn timed(seconds: u64, seed: u64) {
     for mut target in all() {
         let started = Instant::now();
         let share = Duration::from_millis(seconds * 1000 / 3);
-        match run(&mut target, seed, |_| started.elapsed() < share) {
+        match run(&mut target, seed, |number| number < LEAST || started.elapsed() < share) {
             Ok(tally) => {
                 println!("{}: {} cases, {tally:?}", target.name, tally.total());
                 for kind in target.kinds {
