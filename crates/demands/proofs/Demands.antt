@@ -10,7 +10,7 @@ use Rattle.refusal.specs.declared.Refusal.{Refusal}
 use Rattle.refusal.specs.Numbers.{too-many-atoms, not-settled, text-room-too-small, not-a-truth-code}
 use Rattle.paper.specs.Table1.{Value, code, _and_, _or_, not′, _implies_}
 use Rattle.paper.specs.Rules.{positive, _∈_}
-use Rattle.paper.specs.Definitions.{Interpretation, value, Smallest, SmallestWellSupported}
+use Rattle.paper.specs.Definitions.{Interpretation, value, SmallestWellSupported}
 use Rattle.paper.specs.Marking.{Marked, Unmarked, CanBeMarked, Settled, IsHeld, settledValue, count, inconsistent}
 use Rattle.paper.proofs.Theorems.{smallest-by-test, smallest-exists}
 use Rattle.truth.specs.declared.Truth.{Truth}
@@ -229,11 +229,11 @@ host-sheet-refused s words names text e o = host-sheet-determined s words names 
 
 -- so an answer tells its cause: the length of the value sheet, if the sheet is accepted and it fits, else the fault that the order finds, 15 last
 pub host-sheet-tells : (s words names text : List ℕ) {answer : ℕ} {ws ns text′ : List ℕ} → HostSheet s words names text answer ws ns text′
-    → ((x : Sofar) × (I : Interpretation) × (sheetOutcome s (length words / 2) (length names / 4) ≡ sheet.accepted x) × Smallest (x .rules) I
+    → ((x : Sofar) × (I : Interpretation) × (sheetOutcome s (length words / 2) (length names / 4) ≡ sheet.accepted x) × SmallestWellSupported (x .rules) I
     × (length (sheetOf s x I) ≤ length text) × (answer ≡ length (sheetOf s x I)) × (answer < 4294967296))
     ⊎ ((f : Refusal)
     × ((sheetOutcome s (length words / 2) (length names / 4) ≡ sheet.refused f)
-    ⊎ ((x : Sofar) × (I : Interpretation) × (sheetOutcome s (length words / 2) (length names / 4) ≡ sheet.accepted x) × Smallest (x .rules) I
+    ⊎ ((x : Sofar) × (I : Interpretation) × (sheetOutcome s (length words / 2) (length names / 4) ≡ sheet.accepted x) × SmallestWellSupported (x .rules) I
     × (length text < length (sheetOf s x I)) × (f ≡ text-room-too-small (length (sheetOf s x I)))))
     × (answer ≡ packed f) × (1 ≤ f .number) × (f .place < 4294967296))
 host-sheet-tells = answer-tells

@@ -12,7 +12,8 @@ use Rattle.refusal.specs.declared.Refusal.{Refusal}
 use Rattle.refusal.specs.Numbers.{text-room-too-small}
 use Rattle.paper.specs.Table1.{code}
 use Rattle.paper.specs.Rules.{positive}
-use Rattle.paper.specs.Definitions.{Interpretation, value, Smallest}
+use Rattle.paper.specs.Definitions.{Interpretation, value, Smallest, SmallestWellSupported}
+use Rattle.paper.proofs.Theorems.{smallest-by-test}
 use Rattle.words.specs.declared.Checked.{Checked}
 use Rattle.words.specs.declared.Checked.the-variants.{Accepted, Refused as Faulty}
 use Rattle.words.proofs.Bounds.{Within, asking-within}
@@ -30,7 +31,7 @@ use Rattle.valuesheet.specs.ValueSheet.{hasLine, lineBytes, bytesFrom}
 use Rattle.valuesheet.proofs.Printing.{lines-length}
 use Rattle.sheets.specs.declared.SheetAnswer.{SheetAnswer}
 use Rattle.sheets.specs.SheetEntry.{SheetAllows, sheetOf}
-use Rattle.sheets.proofs.Laws.{sheet-settles}
+use Rattle.sheets.proofs.Laws.{sheet-settles, sheet-one-rule}
 use Rattle.host.specs.Evaluation.{packed, Packable}
 use Rattle.hostsheet.specs.SheetBytes.{HasRoom, HostSheet}
 
@@ -164,13 +165,17 @@ packs s wordRoom nameRoom text (SheetAllows.accepted {x} {I} e i h) g same = abs
 pub has-room : (s : List ℕ) (wordRoom nameRoom : ℕ) (text : List ℕ) {r : SheetAnswer} {ws ns text′ : List ℕ} → SheetAllows s wordRoom nameRoom text r ws ns text′ → HasRoom r
 has-room s wordRoom nameRoom text o g same = packs s wordRoom nameRoom text o g same .0
 
+-- the model that the promise names is the smallest for orders of any kind
+printed : (s : List ℕ) (wordRoom nameRoom : ℕ) (x : Sofar) (I : Interpretation) → sheetOutcome s wordRoom nameRoom ≡ accepted x → Smallest (x .rules) I → SmallestWellSupported (x .rules) I
+printed s wordRoom nameRoom x I e i = smallest-by-test (x .rules) (sheet-one-rule s wordRoom nameRoom x e) I .0 i
+
 -- an answer tells its cause: the accepted sheet whose value sheet has that length and fits, or the fault that the written order finds, 15 last
 pub answer-tells : (s words names text : List ℕ) {a : ℕ} {ws ns text′ : List ℕ} → HostSheet s words names text a ws ns text′
-    → ((x : Sofar) × (I : Interpretation) × (sheetOutcome s (length words / 2) (length names / 4) ≡ accepted x) × Smallest (x .rules) I
+    → ((x : Sofar) × (I : Interpretation) × (sheetOutcome s (length words / 2) (length names / 4) ≡ accepted x) × SmallestWellSupported (x .rules) I
     × (length (sheetOf s x I) ≤ length text) × (a ≡ length (sheetOf s x I)) × (a < 4294967296))
     ⊎ ((f : Refusal)
     × ((sheetOutcome s (length words / 2) (length names / 4) ≡ refused f)
-    ⊎ ((x : Sofar) × (I : Interpretation) × (sheetOutcome s (length words / 2) (length names / 4) ≡ accepted x) × Smallest (x .rules) I
+    ⊎ ((x : Sofar) × (I : Interpretation) × (sheetOutcome s (length words / 2) (length names / 4) ≡ accepted x) × SmallestWellSupported (x .rules) I
     × (length text < length (sheetOf s x I)) × (f ≡ text-room-too-small (length (sheetOf s x I)))))
     × (a ≡ packed f) × (1 ≤ f .number) × (f .place < 4294967296))
 answer-tells s words names text (HostSheet.answered (SheetAllows.refused {f} e)) =
@@ -178,6 +183,6 @@ answer-tells s words names text (HostSheet.answered (SheetAllows.refused {f} e))
     inr (f, inl e, refl, p .1, p .0 .place-small)
 answer-tells s words names text (HostSheet.answered (SheetAllows.never-settles {x} e A m n)) = absurd (n (sheet-settles s (length words / 2) (length names / 4) x e A m))
 answer-tells s words names text (HostSheet.answered (SheetAllows.does-not-fit {x} {I} e i h)) =
-    inr (text-room-too-small (length (sheetOf s x I)), inr (x, I, e, i, h, refl), refl, omega arith, value-sheet-is-short s (length words / 2) (length names / 4) x I e)
+    inr (text-room-too-small (length (sheetOf s x I)), inr (x, I, e, printed s (length words / 2) (length names / 4) x I e i, h, refl), refl, omega arith, value-sheet-is-short s (length words / 2) (length names / 4) x I e)
 answer-tells s words names text (HostSheet.answered (SheetAllows.accepted {x} {I} e i h)) =
-    inl (x, I, e, i, h, refl, value-sheet-is-short s (length words / 2) (length names / 4) x I e)
+    inl (x, I, e, printed s (length words / 2) (length names / 4) x I e i, h, refl, value-sheet-is-short s (length words / 2) (length names / 4) x I e)
