@@ -58,6 +58,11 @@ uint64_t probe_evaluate(uint64_t n, const uint16_t *table, size_t words, uint8_t
  * 8, 10, 11. `*place` is the next place afterwards, `*start` and `*len` the name's place and length, 0 where there is none. */
 uint64_t probe_reading(const uint8_t *sheet, size_t sheet_len, size_t *place, size_t *start, size_t *len);
 
+/* The same from a reader that was made at the start and moved on to `*place`; what it saw there before it read, in the same way,
+ * is left in `*seen`, `*seen_start` and `*seen_len`. */
+uint64_t probe_reader(const uint8_t *sheet, size_t sheet_len, size_t *place, size_t *start, size_t *len,
+                      uint64_t *seen, size_t *seen_start, size_t *seen_len);
+
 /* The value sheet's length; refuses 8, 9, literals (10 to 14 and 7), 19, 15. `*atoms` and `*filled` are N and the words
  * filled, 0 after a refusal. Buffer lengths are in entries. */
 uint64_t probe_sheet(const uint8_t *sheet, size_t sheet_len, uint16_t *words, size_t words_len,

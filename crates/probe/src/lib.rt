@@ -18,7 +18,7 @@ ghost use Rattle.truth.specs.Connectives.{conjunction, disjunction, negated, im
 ghost use Rattle.words.specs.Check.{tableCheck};
 ghost use Prim.Native.Nat.{_≤_};
 ghost use lib.ListN.{length};
-ghost use Rattle.reader.specs.Readings.{nextAt};
+ghost use Rattle.reader.specs.Readings.{readingAt, placeAfter, nextAt};
 ghost use Rattle.probe.specs.Packed.{packed, truthNumber, checkedNumber, freshNumber, pickNumber, settledNumber, reportNumber, countNumber, evaluationNumber, FreshPacked, PickPacked, SettledPacked, ReportPacked, CountPacked, EvaluationPacked, roleNumber, literalNumber, readingNumber, nameStart, nameLength, sheetNumber, sheetAtoms, sheetWords, SheetPacked};
 
 // 2^32 times the number, plus the place.
@@ -245,6 +245,17 @@ fn name_length(reading: Reading) -> usize
     }
 }
 
+// A reading as a number; its name's place and length go where they are lent.
+fn put_reading(reading: Reading, start: &mut usize, len: &mut usize) -> u64
+    ensures { λ r. ⌜ r ≡ readingNumber reading ⌝ }
+    ensures { λ _. ⌜ now (start .exit) ≡ nameStart reading ⌝ }
+    ensures { λ _. ⌜ now (len .exit) ≡ nameLength reading ⌝ }
+{
+    *start = name_start(reading);
+    *len = name_length(reading);
+    reading_number(reading)
+}
+
 #[no_mangle]
 pub extern "C" fn probe_reading(
     sheet: &[u8],
@@ -260,9 +271,33 @@ pub extern "C" fn probe_reading(
     let next = reader::next_at(sheet, *place);
     let reading = next.reading;
     *place = next.place;
-    *start = name_start(reading);
-    *len = name_length(reading);
-    reading_number(reading)
+    put_reading(reading, start, len)
+}
+
+#[no_mangle]
+pub extern "C" fn probe_reader(
+    sheet: &[u8],
+    place: &mut usize,
+    start: &mut usize,
+    len: &mut usize,
+    seen: &mut u64,
+    seen_start: &mut usize,
+    seen_len: &mut usize,
+) -> u64
+    ensures { λ r. ⌜ r ≡ readingNumber (readingAt (now (sheet .entry)) (now (place .entry))) ⌝ }
+    ensures { λ _. ⌜ now (place .exit) ≡ placeAfter (readingAt (now (sheet .entry)) (now (place .entry))) (now (place .entry)) ⌝ }
+    ensures { λ _. ⌜ now (start .exit) ≡ nameStart (readingAt (now (sheet .entry)) (now (place .entry))) ⌝ }
+    ensures { λ _. ⌜ now (len .exit) ≡ nameLength (readingAt (now (sheet .entry)) (now (place .entry))) ⌝ }
+    ensures { λ _. ⌜ now (seen .exit) ≡ readingNumber (readingAt (now (sheet .entry)) (now (place .entry))) ⌝ }
+    ensures { λ _. ⌜ now («seen_start» .exit) ≡ nameStart (readingAt (now (sheet .entry)) (now (place .entry))) ⌝ }
+    ensures { λ _. ⌜ now («seen_len» .exit) ≡ nameLength (readingAt (now (sheet .entry)) (now (place .entry))) ⌝ }
+{
+    let stepped = reader::step(sheet, *place);
+    let seen_reading = stepped.seen;
+    let reading = stepped.reading;
+    *place = stepped.place;
+    *seen = put_reading(seen_reading, seen_start, seen_len);
+    put_reading(reading, start, len)
 }
 
 fn sheet_number(answer: SheetAnswer) -> u64

@@ -264,9 +264,24 @@ impl<'a> Reader<'a> {
     }
 }
 
-// The first reading of a sheet.
-pub fn first(sheet: &[u8]) -> Reading
-    ensures { λ r. ⌜ r ≡ readingAt (now (sheet .entry)) 0 ⌝ }
+// What a reader at a place sees, what it yields, and where it then stands.
+pub struct Stepped {
+    pub seen: Reading,
+    pub reading: Reading,
+    pub place: usize,
+}
+
+// A reader moved on from the start to a place, and one step of it.
+pub fn step(sheet: &[u8], place: usize) -> Stepped
+    ensures { λ r. ⌜ (r .seen ≡ readingAt (now (sheet .entry)) place) × (r .reading ≡ readingAt (now (sheet .entry)) place) × (r .place ≡ placeAfter (readingAt (now (sheet .entry)) place) place) ⌝ }
 {
-    Reader::new(sheet).peek()
+    let mut reader = Reader::new(sheet);
+    reader.place += place;
+    let seen = reader.peek();
+    let reading = reader.next();
+    Stepped {
+        seen,
+        reading,
+        place: reader.place,
+    }
 }

@@ -9,6 +9,16 @@ use crate::guard::Guarded;
 
 unsafe extern "C" {
     fn probe_reading(sheet: *const u8, length: usize, place: *mut u64, start: *mut u64, len: *mut u64) -> u64;
+    fn probe_reader(
+        sheet: *const u8,
+        length: usize,
+        place: *mut u64,
+        start: *mut u64,
+        len: *mut u64,
+        seen: *mut u64,
+        seen_start: *mut u64,
+        seen_len: *mut u64,
+    ) -> u64;
     fn probe_sheet(
         sheet: *const u8,
         length: usize,
@@ -31,7 +41,24 @@ pub fn reading(sheet: &[u8], place: u64) -> (Reading, u64) {
     let answer = unsafe { probe_reading(sheet.as_ptr(), sheet.len(), at, start, length) };
     let [before, start, next, length, behind] = lent;
     assert_eq!((before, behind), (0xdead_beef, 0xdead_beef), "a guard was altered");
-    let reading = match unpacked(answer) {
+    (unpacked_reading(answer, start, length), next)
+}
+
+/// What the engine's reader, moved on from the start to a place, sees there; then what it yields, and the place where it stands.
+pub fn step(sheet: &[u8], place: u64) -> (Reading, Reading, u64) {
+    let mut lent = [0xdead_beef_u64; 8];
+    lent[2] = place;
+    let [_, start, at, length, seen, seen_start, seen_length, _] = &mut lent;
+    let answer =
+        unsafe { probe_reader(sheet.as_ptr(), sheet.len(), at, start, length, seen, seen_start, seen_length) };
+    let [before, start, next, length, seen, seen_start, seen_length, behind] = lent;
+    assert_eq!((before, behind), (0xdead_beef, 0xdead_beef), "a guard was altered");
+    (unpacked_reading(seen, seen_start, seen_length), unpacked_reading(answer, start, length), next)
+}
+
+/// The reading that a number, a name's place and its length stand for.
+fn unpacked_reading(number: u64, start: u64, length: u64) -> Reading {
+    let reading = match unpacked(number) {
         Err(refusal) => Reading::Refused(refusal),
         Ok(0) => Reading::End,
         Ok(code) => {
@@ -41,12 +68,11 @@ pub fn reading(sheet: &[u8], place: u64) -> (Reading, u64) {
                 6 => Role::Further,
                 _ => panic!("{code} is no reading"),
             };
-            let literal = SheetLiteral { negated: code % 2 == 1, name_place: start, name_length: length, role };
-            return (Reading::Literal(literal), next);
+            return Reading::Literal(SheetLiteral { negated: code % 2 == 1, name_place: start, name_length: length, role });
         }
     };
     assert_eq!((start, length), (0, 0), "a name where there is none");
-    (reading, next)
+    reading
 }
 
 /// The engine's sheet entry, with guards around each buffer.

@@ -1,12 +1,17 @@
-//! The sheet reader at every place of many sheets, and from the start to the end.
+//! The sheet reader at every place of many sheets, and from the start to the end: the function over sheet and place, and the struct.
 
 use against::cases::{Tally, cases};
-use against::sheets::reading;
+use against::sheets::{reading, step};
 use against::shrink::without_parts;
 use second::random::{self, Chance};
 use second::reader::{self, Reading, Role};
 
 const OUTCOMES: [&str; 6] = ["end", "head", "first", "further", "refused 10", "refused 11"];
+
+/// The engine's function and its struct, which also looks before it reads, give this reading and go on at this place.
+fn agree(sheet: &[u8], place: u64, second: (Reading, u64)) -> bool {
+    reading(sheet, place) == second && step(sheet, place) == (second.0, second.0, second.1)
+}
 
 /// Both sides read the same at a place and go on at the same place; the next place.
 fn compare(sheet: &[u8], place: u64, tally: &mut Tally) -> u64 {
@@ -20,10 +25,13 @@ fn compare(sheet: &[u8], place: u64, tally: &mut Tally) -> u64 {
             Role::Further => "further",
         }),
     }
-    if reading(sheet, place) != second {
-        let sheet = without_parts(sheet, |sheet| reading(sheet, place) != reader::reading(sheet, place));
-        let (engine, second) = (reading(&sheet, place), reader::reading(&sheet, place));
-        panic!("sheet \"{}\" at {place}: engine {engine:?}, second implementation {second:?}", sheet.escape_ascii());
+    if !agree(sheet, place, second) {
+        let sheet = without_parts(sheet, |sheet| !agree(sheet, place, reader::reading(sheet, place)));
+        let (engine, stepped, second) = (reading(&sheet, place), step(&sheet, place), reader::reading(&sheet, place));
+        panic!(
+            "sheet \"{}\" at {place}: engine {engine:?}, its reader {stepped:?}, second implementation {second:?}",
+            sheet.escape_ascii()
+        );
     }
     second.1
 }
