@@ -32,7 +32,7 @@ pub record Example : Type 0 where
   pub also : List Interpretation
   pub only-models : List Interpretation
 
--- what an example says: these are the values of the smallest well-supported model, every settled marking from none has made so many marks,
+-- what an example says: these are the values of the smallest well-supported model, a settled marking from none exists and each has made so many marks,
 -- and the other sets are what they are called
 pub record Says (e : Example) : Type 1 where
   pub one-rule-per-head : OneRulePerHead (e .rules)
@@ -43,7 +43,7 @@ pub record Says (e : Example) : Type 1 where
   pub also-well-supported : (J : Interpretation) → J ∈ e .also → WellSupported (e .rules) J × (SmallestWellSupported (e .rules) J → ⊥)
   pub only-a-model : (J : Interpretation) → J ∈ e .only-models → Model (e .rules) J × (WellSupported (e .rules) J → ⊥)
 
--- P1 no rules, N 0: no values
+-- P1 no rules, N 0: settled, no values
 abbrev pub P1 : Example
 P1 = record { atoms = 0; rules = []; values = []; made = 0; also = []; only-models = [] }
 
