@@ -52,7 +52,7 @@ use Rattle.sheets.specs.SheetEntry.{sheetOf, counts, SheetAllows}
 use Rattle.sheets.proofs.Laws.{sheet-one-rule, sheet-determined}
 use Rattle.host.specs.Bytes.{wordsIn, loneByte}
 use Rattle.host.specs.Evaluation.{hostFault, packed, HostEvaluation}
-use Rattle.host.proofs.Determined.{host-accepted, host-determined, host-answer-tells}
+use Rattle.host.proofs.Determined.{host-accepted, host-determined, host-answer-tells, zero-exactly-if-accepted}
 use Rattle.hostsheet.specs.SheetBytes.{HostSheet, wordsOver, namesOver}
 use Rattle.hostsheet.proofs.Bounds.{answer-tells}
 use Rattle.hostsheet.proofs.Determined.{host-sheet-determined}
@@ -192,6 +192,10 @@ pub host-evaluation-tells : (N : ℕ) (bytes room : List ℕ) {answer : ℕ} {ro
     → ((hostFault N (wordsIn bytes) (loneByte bytes) (length room) ≡ Accepted) × (answer ≡ 0))
     ⊎ ((f : Refusal) × (hostFault N (wordsIn bytes) (loneByte bytes) (length room) ≡ Refused f) × (answer ≡ packed f) × (1 ≤ f .number) × (f .place < 4294967296))
 host-evaluation-tells = host-answer-tells
+
+pub host-evaluation-zero : (N : ℕ) (bytes room : List ℕ) {answer : ℕ} {room′ : List ℕ} → HostEvaluation N bytes room answer room′
+    → (answer ≡ 0) ↔ (hostFault N (wordsIn bytes) (loneByte bytes) (length room) ≡ Accepted)
+host-evaluation-zero = zero-exactly-if-accepted
 
 -- the sheet reader: only 8, 10 and 11, at every place; the same again after the end or a refusal; and it ends
 pub reader-determined : (s : List ℕ) (p : ℕ) (x y : Next) → x ≡ nextAt s p → y ≡ nextAt s p → x ≡ y

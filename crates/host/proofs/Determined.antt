@@ -1,7 +1,7 @@
 -- Two outcomes that the host's promise allows are equal. Assumes nothing.
 use mathlib.Core.Bool.{Bool, not}
 use mathlib.Core.List.{List}
-use mathlib.Core.Logic.{_⊎_, inl, inr}
+use mathlib.Core.Logic.{_⊎_, inl, inr, ⊎-elim, _↔_}
 use mathlib.Core.Path.{_≡_, refl, sym, ap, _∙_, subst}
 use Prim.Native.Nat.{ℕ, _≤_, _<_}
 use native.Mathlib.Omega.{arith}
@@ -57,3 +57,9 @@ host-answer-tells N bytes room (HostEvaluation.refused {f} e) =
     let k : Within 8192 (Refused f) = subst (Within 8192) e (host-within N (wordsIn bytes) (loneByte bytes) (length room)) in
     inr (f, e, refl, k .2, omega (arith, k .1))
 host-answer-tells N bytes room (HostEvaluation.evaluated e I s) = inl (e, refl)
+
+pub zero-exactly-if-accepted : (N : ℕ) (bytes room : List ℕ) {a : ℕ} {room′ : List ℕ} → HostEvaluation N bytes room a room′
+    → (a ≡ 0) ↔ (hostFault N (wordsIn bytes) (loneByte bytes) (length room) ≡ Accepted)
+zero-exactly-if-accepted N bytes room o =
+    ⊎-elim (λ q. ((λ z. q .0), λ e. q .1)) (λ q. ((λ z. absurd (omega (arith, z, q .2, q .3))), λ e. absurd (refused≢accepted (q .0) (sym (q .1) ∙ e))))
+    (host-answer-tells N bytes room o)
