@@ -2,10 +2,10 @@
 use mathlib.Core.Bool.{true, false}
 use mathlib.Core.List.{List, [], _++_}
 use mathlib.Core.Logic.{_↔_, _⊎_, ⊎-elim}
-use mathlib.Core.Path.{_≡_, sym, _∙_, subst⁻¹}
+use mathlib.Core.Path.{_≡_, refl, sym, _∙_, subst⁻¹}
 use Prim.Native.Nat.{ℕ, _+_, _≤_, _<_, _/_}
 use lib.Dec.{leb}
-use lib.ListN.{length, drop}
+use lib.ListN.{length, take, drop}
 use Rattle.refusal.specs.declared.Refusal.{Refusal}
 use Rattle.refusal.specs.Numbers.{too-many-atoms, not-settled, text-room-too-small, not-a-truth-code}
 use Rattle.paper.specs.Table1.{Value, code, _and_, _or_, not′, _implies_}
@@ -46,10 +46,10 @@ use Rattle.reader.proofs.Laws as reader
 use Rattle.sheetwords.specs.Sheets.{Sofar, sheetOutcome}
 use Rattle.sheetwords.specs.Sheets as sheet
 use Rattle.sheetwords.specs.Buffers.{padded}
-use Rattle.sheetwords.proofs.Laws.{sheet-table-accepted, sheet-table-rules}
+use Rattle.sheets.specs.declared.SheetCounts.{SheetCounts}
 use Rattle.sheets.specs.declared.SheetAnswer.{SheetAnswer}
 use Rattle.sheets.specs.SheetEntry.{sheetOf, counts, SheetAllows}
-use Rattle.sheets.proofs.Laws.{sheet-one-rule, sheet-determined}
+use Rattle.sheets.proofs.Laws.{sheet-one-rule, sheet-determined, leaves-a-table}
 use Rattle.host.specs.Bytes.{wordsIn, loneByte}
 use Rattle.host.specs.Evaluation.{hostFault, packed, HostEvaluation}
 use Rattle.host.proofs.Determined.{host-accepted, host-determined, host-answer-tells, zero-exactly-if-accepted}
@@ -266,9 +266,10 @@ host-evaluation-values N bytes room e o I i =
     host-determined N bytes room o (HostEvaluation.evaluated e I (smallest-by-test (rulesOf (wordsIn bytes)) one I .1 i))
 
 module _ (s : List ℕ) (wordRoom nameRoom : ℕ) (text : List ℕ) (x : Sofar) (read : sheetOutcome s wordRoom nameRoom ≡ sheet.accepted x) where
-  -- the words of an accepted sheet are an accepted table for its N, and its rules are that table's
-  pub sheet-is-a-table : AcceptedTable (length (x .names)) (wordsOf (x .rules)) × (rulesOf (wordsOf (x .rules)) ≡ x .rules)
-  sheet-is-a-table = (sheet-table-accepted s wordRoom nameRoom x read, sheet-table-rules x)
+  -- the words that an accepted sheet leaves are an accepted table for the N that it answers, with the sheet's rules
+  pub sheet-leaves-a-table : {c : SheetCounts} {ws ns text′ : List ℕ} → SheetAllows s wordRoom nameRoom text (SheetAnswer.Accepted c) ws ns text′
+      → AcceptedTable (c .atoms) (take (c .words) ws) × (rulesOf (take (c .words) ws) ≡ x .rules)
+  sheet-leaves-a-table {c} o = leaves-a-table s wordRoom nameRoom text o c refl x read
 
   module _ (I : Interpretation) (smallest : SmallestWellSupported (x .rules) I) where
     -- the value sheet by the written layout, with the values of the model ..

@@ -1,16 +1,18 @@
--- Two outcomes that the sheet entry allows are equal.
-use mathlib.Core.Path.{_≡_, refl, sym, ap, ap₂, _∙_, subst}
+-- Two outcomes that the sheet entry allows are equal, and what an accepted sheet leaves.
+use mathlib.Core.Path.{_≡_, refl, sym, ap, ap₂, _∙_, subst, subst₂}
 use mathlib.Core.List.{List, _++_}
-use Prim.Native.Nat.{ℕ, _<_, _≤_}
+use Prim.Native.Nat.{ℕ, _-_, _<_, _≤_}
 use native.Mathlib.Nat.{le-refl}
 use native.Mathlib.Omega.{arith}
-use lib.ListN.{length, drop, length-append}
+use lib.ListN.{length, take, drop, replicate, length-append}
+use lib.Seq.{take-append-seam}
 use Rattle.refusal.specs.declared.Refusal.{Refusal}
 use Rattle.refusal.specs.Numbers.{text-room-too-small}
 use Rattle.paper.specs.Rules.{Rule, OneRulePerHead}
 use Rattle.paper.specs.Definitions.{Interpretation, Smallest}
 use Rattle.paper.specs.Marking.{Marks, Marking, Settled}
 use Rattle.paper.proofs.Smallest.{smallest-unique}
+use Rattle.words.specs.Check.{AcceptedTable}
 use Rattle.words.specs.Layout.{wordsOf, rulesOf}
 use Rattle.words.proofs.Laws.{accepted-atoms, accepted-one-rule}
 use Rattle.evaluation.proofs.Laws.{always-settles}
@@ -88,3 +90,22 @@ accepted-fits s wordRoom nameRoom text (SheetAllows.accepted {x} {I} e i h) c sa
     let v = sheetOf s x I in
     let is : length v ≡ c .bytes = cc in
     omega (arith, is, length-append v (drop (length v) text))
+
+-- the words that an accepted sheet leaves are an accepted table for the N that it answers, with the sheet's rules
+pub leaves-a-table : (s : List ℕ) (wordRoom nameRoom : ℕ) (text : List ℕ) {a : SheetAnswer} {ws ns text′ : List ℕ} → SheetAllows s wordRoom nameRoom text a ws ns text′
+    → (c : SheetCounts) → a ≡ SheetAnswer.Accepted c → (y : Sofar) → sheetOutcome s wordRoom nameRoom ≡ accepted y
+    → AcceptedTable (c .atoms) (take (c .words) ws) × (rulesOf (take (c .words) ws) ≡ y .rules)
+unfolding padded
+leaves-a-table s wordRoom nameRoom text (SheetAllows.refused e) c same y f = absurd (let z : _≡_ {A = ℕ} 0 1 = cc in omega arith)
+leaves-a-table s wordRoom nameRoom text (SheetAllows.never-settles e A m n) c same y f = absurd (let z : _≡_ {A = ℕ} 0 1 = cc in omega arith)
+leaves-a-table s wordRoom nameRoom text (SheetAllows.does-not-fit e i h) c same y f = absurd (let z : _≡_ {A = ℕ} 0 1 = cc in omega arith)
+leaves-a-table s wordRoom nameRoom text (SheetAllows.accepted {x} {I} e i h) c same y f =
+    let words = wordsOf (x .rules) in
+    let atoms : length (x .names) ≡ c .atoms = cc in
+    let filled : length words ≡ c .words = cc in
+    let front : take (c .words) (words ++ replicate (wordRoom - length words) 0) ≡ words =
+    ap (λ (n : ℕ). take n (words ++ replicate (wordRoom - length words) 0)) (sym filled) ∙ take-append-seam words (replicate (wordRoom - length words) 0)
+    in (
+      subst₂ (λ (n : ℕ) (t : List ℕ). AcceptedTable n t) atoms (sym front) (sheet-table-accepted s wordRoom nameRoom x e),
+      ap rulesOf front ∙ sheet-table-rules x ∙ ap (λ (z : Sofar). z .rules) (accepted-once x y (sym e ∙ f)),
+    )
