@@ -11,8 +11,8 @@ use lib.Count.{ones, trailingZeros, under, ones-step}
 use lib.Pow.{pow-pos, shl-exact}
 use lib.Bits.{bitOr, bitXor, or-shr, or-mod, xor-shr, xor-mod}
 use borrow.Author.Tests.{eqb-true}
-use Rattle.paper.specs.Marking.{count}
-use Rattle.paper.proofs.Counting.{count-≡, count-add}
+use Rattle.sets.specs.Sets.{count}
+use Rattle.sets.proofs.Counting.{count-≡, count-add}
 use Rattle.bits.specs.Sets.{bit}
 
 two-pos : 0 < 2
@@ -69,7 +69,8 @@ same-digit (suc (suc x)) (suc y) hx hy e = absurd (omega arith)
 pub same-bits : (k a b : ℕ) → a < 2 ^ k → b < 2 ^ k → ((j : ℕ) → j < k → bit a j ≡ bit b j) → a ≡ b
 same-bits zero a b ha hb h = omega arith
 same-bits (suc k) a b ha hb h =
-    let top : a / 2 ≡ b / 2 = same-bits k (a / 2) (b / 2) (omega (arith, pow-suc 2 k)) (omega (arith, pow-suc 2 k)) (λ j l. sym (bit-next a j) ∙ h (suc j) (omega arith) ∙ bit-next b j) in
+    let top : a / 2 ≡ b / 2 = same-bits k
+    (a / 2) (b / 2) (omega (arith, pow-suc 2 k)) (omega (arith, pow-suc 2 k)) (λ j l. sym (bit-next a j) ∙ h (suc j) (omega arith) ∙ bit-next b j) in
     let low : a % 2 ≡ b % 2 = same-digit (a % 2) (b % 2) (mod-lt a two-pos) (mod-lt b two-pos) (sym (bit-first a) ∙ h 0 (omega arith) ∙ bit-first b) in
     omega arith
 

@@ -13,13 +13,13 @@ use lib.Bits.{bitOr, bitXor, or-lt, xor-lt}
 use lib.ListN.{length, getD, set, replicate, length-set, List·getD-eq-default}
 use lib.Seq.{getD-set-same, getD-set-other, set-out, ext-getD}
 use borrow.Author.Tests.{eq-eqb, ne-eqb}
-use Rattle.paper.specs.Marking.{count}
-use Rattle.paper.proofs.Counting.{count-≡, count-add}
-use Rattle.bits.specs.Sets.{bit, member, changed, putIn, takenOut, Words, _with_, _without_, lowestBelow}
+use Rattle.sets.specs.Sets.{count, _with_, _without_}
+use Rattle.sets.proofs.Counting.{count-≡, count-add}
+use Rattle.bits.specs.Sets.{bit, member, changed, putIn}
+use Rattle.bits.specs.Rows.{takenOut, Words, lowestBelow}
 use Rattle.bits.specs.declared.Found.the-variants.{At}
 use Rattle.bits.proofs.Least.{lowestFrom-at}
-use Rattle.bits.proofs.Bit.{lowest-bit, ones-count}
-use Rattle.bits.proofs.Bit.{differs, differs-false, bit-of-zero, bit-or, bit-xor, bit-pow-same, bit-pow-other, same-bits}
+use Rattle.bits.proofs.Bit.{lowest-bit, ones-count, differs, differs-false, bit-of-zero, bit-or, bit-xor, bit-pow-same, bit-pow-other, same-bits}
 
 -- the word and the bit of an index tell the index
 same-index : (i j : ℕ) → i / 64 ≡ j / 64 → i % 64 ≡ j % 64 → i ≡ j
@@ -31,7 +31,7 @@ unfolding member
 member-past s i h = ap (λ (w : ℕ). bit w (i % 64)) (List·getD-eq-default s 0 (omega arith)) ∙ bit-of-zero (i % 64)
 
 -- a member stands in some word
-pub inside : (s : List ℕ) (i : ℕ) → member s i ≡ true → i < 64 * length s
+inside : (s : List ℕ) (i : ℕ) → member s i ≡ true → i < 64 * length s
 inside s i e =
     elim (decLt i (64 * length s)) [
       | yes h ↦ h

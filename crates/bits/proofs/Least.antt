@@ -5,7 +5,7 @@ use Prim.Native.Nat.{ℕ, zero, suc, _+_, _≤_, _<_}
 use native.Mathlib.Decide.{ℕ-discrete}
 use native.Mathlib.Omega.{arith}
 use Rattle.bits.specs.declared.Found.the-variants.{At, Nothing}
-use Rattle.bits.specs.Sets.{lowestFrom}
+use Rattle.bits.specs.Rows.{lowestFrom}
 
 -- it is found where it stands
 pub lowestFrom-at : (n i m : ℕ) (p : ℕ → Bool) → i ≤ m → m < i + n → p m ≡ true

@@ -1,8 +1,10 @@
 ghost use mathlib.Core.Path.{_≡_};
 ghost use lib.Bits.{bitXor};
 ghost use lib.ListN.{getD};
-ghost use Rattle.paper.specs.Marking.{count};
-ghost use Rattle.bits.specs.Sets.{changed, member, putIn, takenOut, lowestBelow};
+ghost use Rattle.limits.specs.Limits.{mostAtoms, mostCodes};
+ghost use Rattle.sets.specs.Sets.{count};
+ghost use Rattle.bits.specs.Sets.{changed, member, putIn};
+ghost use Rattle.bits.specs.Rows.{takenOut, lowestBelow};
 
 // A member that was looked for.
 pub enum Found {
@@ -60,7 +62,7 @@ fn word(set: &[u64], w: usize) -> u64
 
 // How many numbers below 512 are in the set.
 pub fn count(set: &[u64]) -> usize
-    ensures { λ r. ⌜ r ≡ count 512 (member (now (set .entry))) ⌝ }
+    ensures { λ r. ⌜ r ≡ count mostAtoms (member (now (set .entry))) ⌝ }
 {
     let mut n: usize = 0;
     let mut w: usize = 0;
@@ -73,7 +75,7 @@ pub fn count(set: &[u64]) -> usize
 
 // The lowest number below 1,024 that is in the set.
 pub fn lowest(set: &[u64]) -> Found
-    ensures { λ r. ⌜ r ≡ lowestBelow 1024 (member (now (set .entry))) ⌝ }
+    ensures { λ r. ⌜ r ≡ lowestBelow mostCodes (member (now (set .entry))) ⌝ }
 {
     let mut w: usize = 0;
     while w < 16 {

@@ -6,46 +6,49 @@ use mathlib.Core.Path.{_≡_, refl, sym, _∙_, subst⁻¹}
 use Prim.Native.Nat.{ℕ, _+_, _≤_, _<_, _/_}
 use lib.Dec.{leb}
 use lib.ListN.{length, take, drop}
+use Rattle.limits.specs.Limits.{mostAtoms}
 use Rattle.refusal.specs.declared.Refusal.{Refusal}
 use Rattle.refusal.specs.Numbers.{too-many-atoms, not-settled, text-room-too-small, not-a-truth-code}
 use Rattle.paper.specs.Table1.{Value, code, _and_, _or_, not′, _implies_}
-use Rattle.paper.specs.Rules.{positive, _∈_}
+use Rattle.paper.specs.Rules.{positive}
+use Rattle.sets.specs.Sets.{_∈_, count}
 use Rattle.paper.specs.Definitions.{Interpretation, value, SmallestWellSupported}
-use Rattle.paper.specs.Marking.{Marked, Unmarked, CanBeMarked, Settled, IsHeld, settledValue, count, inconsistent}
+use Rattle.paper.specs.Marking.{Marked, Unmarked, CanBeMarked, Settled, IsHeld, settledValue, inconsistent}
 use Rattle.paper.proofs.Theorems.{smallest-by-test, smallest-exists}
-use Rattle.truth.specs.declared.Truth.{Truth}
-use Rattle.truth.specs.declared.Truth.the-variants.{Code, Refused as NoCode}
+use Rattle.refusal.specs.declared.Numbered.{Numbered}
+use Rattle.refusal.specs.declared.Numbered.the-variants.{Number, Refused as NoCode}
 use Rattle.truth.specs.Connectives.{conjunction, disjunction, negated, implied}
 use Rattle.truth.proofs.Laws as truth
 use Rattle.truth.proofs.Laws.{one-answer, and-is-table-1, or-is-table-1, not-is-table-1, implication-is-table-1, first-refused, second-refused}
-use Rattle.words.specs.declared.Checked.{Checked}
-use Rattle.words.specs.declared.Checked.the-variants.{Accepted, Refused}
+use Rattle.refusal.specs.declared.Checked.{Checked}
+use Rattle.refusal.specs.declared.Checked.the-variants.{Accepted, Refused}
 use Rattle.words.specs.Check.{tableCheck, AcceptedTable}
 use Rattle.words.specs.Layout.{rulesOf, wordsOf}
 use Rattle.words.proofs.Laws.{check-determined, accepted-one-rule}
 use Rattle.bits.specs.Sets.{putIn}
-use Rattle.marking.specs.Faults.{recordFault, pickFault, settledFault, reportFault}
-use Rattle.picks.specs.declared.MarkRecord.{MarkRecord}
-use Rattle.picks.specs.declared.FreshAnswer.{FreshAnswer}
+use Rattle.records.specs.Records.{recordFault, marksOf, noMarksFor, withMarks, FreshAllows, CountAllows}
+use Rattle.picks.specs.Faults.{pickFault, settledFault, reportFault}
+use Rattle.records.specs.declared.MarkRecord.{MarkRecord}
 use Rattle.picks.specs.declared.PickAnswer.{PickAnswer}
-use Rattle.picks.specs.declared.SettledAnswer.{SettledAnswer}
-use Rattle.picks.specs.declared.ReportAnswer.{ReportAnswer}
-use Rattle.picks.specs.declared.CountAnswer.{CountAnswer}
-use Rattle.picks.specs.Entries.{marksOf, noMarksFor, withMarks, FreshAllows, PickAllows, SettledAllows, ReportAllows, CountAllows, written}
+use Rattle.refusal.specs.declared.Decided.{Decided}
+use Rattle.picks.specs.Entries.{PickAllows, SettledAllows, ReportAllows}
+use Rattle.values.specs.Values.{written}
 use Rattle.picks.specs.Traces.{Picks, PickPasses}
+use Rattle.records.proofs.Laws as records
 use Rattle.picks.proofs.Determined as picks
 use Rattle.picks.proofs.Demand3 as rooms
-use Rattle.evaluation.specs.declared.EvaluationAnswer.{EvaluationAnswer}
 use Rattle.evaluation.specs.Evaluation.{evaluationFault, EvaluationAllows}
 use Rattle.evaluation.proofs.Evaluated as evaluated
-use Rattle.evaluation.proofs.Laws.{evaluation-determined, evaluation-equals-report}
+use Rattle.evaluation.proofs.Laws.{evaluation-determined}
+use Rattle.demands.proofs.Report.{evaluation-equals-report}
 use Rattle.reader.specs.declared.Reading.{Reading}
 use Rattle.reader.specs.declared.Next.{Next}
 use Rattle.reader.specs.Readings.{readingAt, nextAt, GivesOnly, NoLiteral, reached}
 use Rattle.reader.proofs.Laws as reader
-use Rattle.sheetwords.specs.Sheets.{Sofar, sheetOutcome}
+use Rattle.literals.specs.Literals.{Sofar}
+use Rattle.sheetwords.specs.Sheets.{sheetOutcome}
 use Rattle.sheetwords.specs.Sheets as sheet
-use Rattle.sheetwords.specs.Buffers.{padded}
+use Rattle.buffers.specs.Padded.{padded}
 use Rattle.sheets.specs.declared.SheetCounts.{SheetCounts}
 use Rattle.sheets.specs.declared.SheetAnswer.{SheetAnswer}
 use Rattle.sheets.specs.SheetEntry.{sheetOf, counts, SheetAllows}
@@ -61,40 +64,40 @@ use Rattle.hostsheet.proofs.Determined.{host-sheet-determined}
 -- (That each entry takes all inputs and ends is what the prover checks of it: none has a requires.)
 
 -- and, or, not, implication: Table 1 over codes; a number above 3 is 20 at place 0
-pub and-determined : (v w : ℕ) {r r′ : Truth} → r ≡ conjunction v w → r′ ≡ conjunction v w → r ≡ r′
+pub and-determined : (v w : ℕ) {r r′ : Numbered} → r ≡ conjunction v w → r′ ≡ conjunction v w → r ≡ r′
 and-determined v w e e′ = one-answer e e′
 
-pub or-determined : (v w : ℕ) {r r′ : Truth} → r ≡ disjunction v w → r′ ≡ disjunction v w → r ≡ r′
+pub or-determined : (v w : ℕ) {r r′ : Numbered} → r ≡ disjunction v w → r′ ≡ disjunction v w → r ≡ r′
 or-determined v w e e′ = one-answer e e′
 
-pub not-determined : (v : ℕ) {r r′ : Truth} → r ≡ negated v → r′ ≡ negated v → r ≡ r′
+pub not-determined : (v : ℕ) {r r′ : Numbered} → r ≡ negated v → r′ ≡ negated v → r ≡ r′
 not-determined v e e′ = one-answer e e′
 
-pub implication-determined : (v w : ℕ) {r r′ : Truth} → r ≡ implied v w → r′ ≡ implied v w → r ≡ r′
+pub implication-determined : (v w : ℕ) {r r′ : Numbered} → r ≡ implied v w → r′ ≡ implied v w → r ≡ r′
 implication-determined v w e e′ = one-answer e e′
 
-pub and-value : (a b : Value) {r : Truth} → r ≡ conjunction (code a) (code b) → r ≡ Code (code (a and b))
+pub and-value : (a b : Value) {r : Numbered} → r ≡ conjunction (code a) (code b) → r ≡ Number (code (a and b))
 and-value a b e = e ∙ and-is-table-1 a b
 
-pub or-value : (a b : Value) {r : Truth} → r ≡ disjunction (code a) (code b) → r ≡ Code (code (a or b))
+pub or-value : (a b : Value) {r : Numbered} → r ≡ disjunction (code a) (code b) → r ≡ Number (code (a or b))
 or-value a b e = e ∙ or-is-table-1 a b
 
-pub not-value : (a : Value) {r : Truth} → r ≡ negated (code a) → r ≡ Code (code (not′ a))
+pub not-value : (a : Value) {r : Numbered} → r ≡ negated (code a) → r ≡ Number (code (not′ a))
 not-value a e = e ∙ not-is-table-1 a
 
-pub implication-value : (a b : Value) {r : Truth} → r ≡ implied (code a) (code b) → r ≡ Code (code (a implies b))
+pub implication-value : (a b : Value) {r : Numbered} → r ≡ implied (code a) (code b) → r ≡ Number (code (a implies b))
 implication-value a b e = e ∙ implication-is-table-1 a b
 
-pub and-refused : (v w : ℕ) {r : Truth} → (3 < v) ⊎ (3 < w) → r ≡ conjunction v w → r ≡ NoCode not-a-truth-code
+pub and-refused : (v w : ℕ) {r : Numbered} → (3 < v) ⊎ (3 < w) → r ≡ conjunction v w → r ≡ NoCode not-a-truth-code
 and-refused v w h e = e ∙ sym (⊎-elim (first-refused _and_ v w) (second-refused _and_ v w) h)
 
-pub or-refused : (v w : ℕ) {r : Truth} → (3 < v) ⊎ (3 < w) → r ≡ disjunction v w → r ≡ NoCode not-a-truth-code
+pub or-refused : (v w : ℕ) {r : Numbered} → (3 < v) ⊎ (3 < w) → r ≡ disjunction v w → r ≡ NoCode not-a-truth-code
 or-refused v w h e = e ∙ sym (⊎-elim (first-refused _or_ v w) (second-refused _or_ v w) h)
 
-pub not-refused : (v : ℕ) {r : Truth} → 3 < v → r ≡ negated v → r ≡ NoCode not-a-truth-code
+pub not-refused : (v : ℕ) {r : Numbered} → 3 < v → r ≡ negated v → r ≡ NoCode not-a-truth-code
 not-refused v h e = e ∙ sym (truth.not-refused v h)
 
-pub implication-refused : (v w : ℕ) {r : Truth} → (3 < v) ⊎ (3 < w) → r ≡ implied v w → r ≡ NoCode not-a-truth-code
+pub implication-refused : (v w : ℕ) {r : Numbered} → (3 < v) ⊎ (3 < w) → r ≡ implied v w → r ≡ NoCode not-a-truth-code
 implication-refused v w h e = e ∙ sym (⊎-elim (first-refused _implies_ v w) (second-refused _implies_ v w) h)
 
 -- the word table check
@@ -102,95 +105,103 @@ pub check-allows-one : (N : ℕ) (t : List ℕ) (r r′ : Checked) → r ≡ tab
 check-allows-one = check-determined
 
 -- fresh record: 1; a refused one has N 0 and no marks
-pub fresh-refused : (N : ℕ) {answer : FreshAnswer} {r : MarkRecord} → leb N 512 ≡ false → FreshAllows N answer r → (answer ≡ FreshAnswer.Refused too-many-atoms) × (r ≡ noMarksFor 0)
-fresh-refused N e o = picks.fresh-determined N o (FreshAllows.refused e)
+pub fresh-refused : (N : ℕ) {answer : Checked} {r : MarkRecord} → leb N 512 ≡ false
+    → FreshAllows N answer r → (answer ≡ Checked.Refused too-many-atoms) × (r ≡ noMarksFor 0)
+fresh-refused N e o = records.fresh-determined N o (FreshAllows.refused e)
 
-pub fresh-accepted : (N : ℕ) {answer : FreshAnswer} {r : MarkRecord} → leb N 512 ≡ true → FreshAllows N answer r → (answer ≡ FreshAnswer.Fresh) × (r ≡ noMarksFor N)
-fresh-accepted N e o = picks.fresh-determined N o (FreshAllows.fresh e)
+pub fresh-accepted : (N : ℕ) {answer : Checked} {r : MarkRecord} → leb N 512 ≡ true → FreshAllows N answer r → (answer ≡ Checked.Accepted) × (r ≡ noMarksFor N)
+fresh-accepted N e o = records.fresh-determined N o (FreshAllows.fresh e)
 
 module _ (r : MarkRecord) (t : List ℕ) where
   -- pick: 1, 17, 2, words, 16; a refusal alters nothing
   pub pick-determined : (a : ℕ) {x y : PickAnswer} {r′ r″ : MarkRecord} → PickAllows r t a x r′ → PickAllows r t a y r″ → (x ≡ y) × (r′ ≡ r″)
   pick-determined a o o′ = picks.pick-determined r t a o o′
 
-  pub pick-refused : (a : ℕ) {f : Refusal} {answer : PickAnswer} {r′ : MarkRecord} → pickFault (r .n) (marksOf r) t a ≡ Refused f → PickAllows r t a answer r′
+  pub pick-refused : (a : ℕ) {f : Refusal} {answer : PickAnswer} {r′ : MarkRecord} → pickFault r t a ≡ Refused f → PickAllows r t a answer r′
       → (answer ≡ PickAnswer.Refused f) × (r′ ≡ r)
   pick-refused a e o = picks.pick-determined r t a o (PickAllows.refused e)
 
-  pub pick-marks : (a : ℕ) {answer : PickAnswer} {r′ : MarkRecord} → pickFault (r .n) (marksOf r) t a ≡ Accepted → CanBeMarked (rulesOf t) (marksOf r) a → PickAllows r t a answer r′
+  pub pick-marks : (a : ℕ) {answer : PickAnswer} {r′ : MarkRecord} → pickFault r t a ≡ Accepted
+      → CanBeMarked (rulesOf t) (marksOf r) a → PickAllows r t a answer r′
       → (answer ≡ PickAnswer.Marked) × (r′ ≡ withMarks r (putIn (r .marks) a))
   pick-marks a e c o = picks.pick-determined r t a o (PickAllows.marked e c)
 
-  pub pick-finds-it-marked : (a : ℕ) {answer : PickAnswer} {r′ : MarkRecord} → pickFault (r .n) (marksOf r) t a ≡ Accepted → Marked (marksOf r) a → PickAllows r t a answer r′
+  pub pick-finds-it-marked : (a : ℕ) {answer : PickAnswer} {r′ : MarkRecord} → pickFault r t a ≡ Accepted → Marked (marksOf r) a → PickAllows r t a answer r′
       → (answer ≡ PickAnswer.AlreadyMarked) × (r′ ≡ r)
   pick-finds-it-marked a e m o = picks.pick-determined r t a o (PickAllows.already-marked e m)
 
-  pub pick-leaves-it : (a : ℕ) {answer : PickAnswer} {r′ : MarkRecord} → pickFault (r .n) (marksOf r) t a ≡ Accepted → Unmarked (marksOf r) a
+  pub pick-leaves-it : (a : ℕ) {answer : PickAnswer} {r′ : MarkRecord} → pickFault r t a ≡ Accepted → Unmarked (marksOf r) a
       → (CanBeMarked (rulesOf t) (marksOf r) a → ⊥) → PickAllows r t a answer r′ → (answer ≡ PickAnswer.CannotBeMarkedNow) × (r′ ≡ r)
   pick-leaves-it a e u n o = picks.pick-determined r t a o (PickAllows.cannot-be-marked-now e u n)
 
   -- settled question: 1, 17, 2, words; it alters nothing
-  pub settled-determined : {x y : SettledAnswer} → SettledAllows r t x → SettledAllows r t y → x ≡ y
+  pub settled-determined : {x y : Decided} → SettledAllows r t x → SettledAllows r t y → x ≡ y
   settled-determined o o′ = picks.settled-determined r t o o′
 
-  pub settled-refused : {f : Refusal} {answer : SettledAnswer} → settledFault (r .n) (marksOf r) t ≡ Refused f → SettledAllows r t answer → answer ≡ SettledAnswer.Refused f
+  pub settled-refused : {f : Refusal} {answer : Decided} → settledFault r t ≡ Refused f → SettledAllows r t answer → answer ≡ Decided.Refused f
   settled-refused e o = picks.settled-determined r t o (SettledAllows.refused e)
 
-  pub settled-yes : {answer : SettledAnswer} → settledFault (r .n) (marksOf r) t ≡ Accepted → Settled (rulesOf t) (marksOf r) → SettledAllows r t answer → answer ≡ SettledAnswer.Yes
+  pub settled-yes : {answer : Decided} → settledFault r t ≡ Accepted → Settled (rulesOf t) (marksOf r) → SettledAllows r t answer → answer ≡ Decided.Yes
   settled-yes e s o = picks.settled-determined r t o (SettledAllows.answers-yes e s)
 
-  pub settled-no : {answer : SettledAnswer} → settledFault (r .n) (marksOf r) t ≡ Accepted → (Settled (rulesOf t) (marksOf r) → ⊥) → SettledAllows r t answer → answer ≡ SettledAnswer.No
+  pub settled-no : {answer : Decided} → settledFault r t ≡ Accepted → (Settled (rulesOf t) (marksOf r) → ⊥) → SettledAllows r t answer → answer ≡ Decided.No
   settled-no e n o = picks.settled-determined r t o (SettledAllows.answers-no e n)
 
   -- report: 1, 17, 2, 3, words, 18; a refusal alters nothing
-  pub report-determined : (room : List ℕ) {x y : ReportAnswer} {room′ room″ : List ℕ} → ReportAllows r t room x room′ → ReportAllows r t room y room″ → (x ≡ y) × (room′ ≡ room″)
+  pub report-determined : (room : List ℕ) {x y : Checked} {room′ room″ : List ℕ}
+      → ReportAllows r t room x room′ → ReportAllows r t room y room″ → (x ≡ y) × (room′ ≡ room″)
   report-determined room o o′ = picks.report-determined r t room o o′
 
-  pub report-refused : (room : List ℕ) {f : Refusal} {answer : ReportAnswer} {room′ : List ℕ} → reportFault (r .n) (marksOf r) t (length room) ≡ Refused f
-      → ReportAllows r t room answer room′ → (answer ≡ ReportAnswer.Refused f) × (room′ ≡ room)
+  pub report-refused : (room : List ℕ) {f : Refusal} {answer : Checked} {room′ : List ℕ} → reportFault r t (length room) ≡ Refused f
+      → ReportAllows r t room answer room′ → (answer ≡ Checked.Refused f) × (room′ ≡ room)
   report-refused room e o = picks.report-determined r t room o (ReportAllows.refused e)
 
-  pub report-before-settled : (room : List ℕ) {answer : ReportAnswer} {room′ : List ℕ} → reportFault (r .n) (marksOf r) t (length room) ≡ Accepted
-      → (Settled (rulesOf t) (marksOf r) → ⊥) → ReportAllows r t room answer room′ → (answer ≡ ReportAnswer.Refused not-settled) × (room′ ≡ room)
+  pub report-before-settled : (room : List ℕ) {answer : Checked} {room′ : List ℕ} → reportFault r t (length room) ≡ Accepted
+      → (Settled (rulesOf t) (marksOf r) → ⊥) → ReportAllows r t room answer room′ → (answer ≡ Checked.Refused not-settled) × (room′ ≡ room)
   report-before-settled room e n o = picks.report-determined r t room o (ReportAllows.before-settled e n)
 
-  pub report-of-any-marks : (room : List ℕ) {answer : ReportAnswer} {room′ : List ℕ} → reportFault (r .n) (marksOf r) t (length room) ≡ Accepted → Settled (rulesOf t) (marksOf r)
+  pub report-of-any-marks : (room : List ℕ) {answer : Checked} {room′ : List ℕ} → reportFault r t (length room) ≡ Accepted → Settled (rulesOf t) (marksOf r)
       → (H : Interpretation) → IsHeld (rulesOf t) (marksOf r) H → ReportAllows r t room answer room′
-      → (answer ≡ ReportAnswer.Reported) × (room′ ≡ written (settledValue (marksOf r) H) (r .n) room)
+      → (answer ≡ Checked.Accepted) × (room′ ≡ written (settledValue (marksOf r) H) (r .n) room)
   report-of-any-marks room e s H h o = picks.report-determined r t room o (ReportAllows.reported e s H h)
 
 -- mark count: 1, 17; it alters nothing
-pub count-determined : (r : MarkRecord) {x y : CountAnswer} → CountAllows r x → CountAllows r y → x ≡ y
-count-determined r o o′ = picks.count-determined r o o′
+pub count-determined : (r : MarkRecord) {x y : Numbered} → CountAllows r x → CountAllows r y → x ≡ y
+count-determined r o o′ = records.count-determined r o o′
 
-pub count-refused : (r : MarkRecord) {f : Refusal} {answer : CountAnswer} → recordFault (r .n) (marksOf r) ≡ Refused f → CountAllows r answer → answer ≡ CountAnswer.Refused f
-count-refused r e o = picks.count-determined r o (CountAllows.refused e)
+pub count-refused : (r : MarkRecord) {f : Refusal} {answer : Numbered} → recordFault r ≡ Refused f → CountAllows r answer → answer ≡ Numbered.Refused f
+count-refused r e o = records.count-determined r o (CountAllows.refused e)
 
-pub count-counts : (r : MarkRecord) {answer : CountAnswer} → recordFault (r .n) (marksOf r) ≡ Accepted → CountAllows r answer → answer ≡ CountAnswer.Marks (count 512 (marksOf r))
-count-counts r e o = picks.count-determined r o (CountAllows.counted e)
+pub count-counts : (r : MarkRecord) {answer : Numbered} → recordFault r ≡ Accepted
+    → CountAllows r answer → answer ≡ Numbered.Number (count mostAtoms (marksOf r))
+count-counts r e o = records.count-determined r o (CountAllows.counted e)
 
 -- evaluation: 1, 2, 3, words (and never 19); a refusal alters nothing
-pub evaluation-allows-one : (N : ℕ) (t room : List ℕ) {x y : EvaluationAnswer} {room′ room″ : List ℕ} → EvaluationAllows N t room x room′ → EvaluationAllows N t room y room″
+pub evaluation-allows-one : (N : ℕ) (t room : List ℕ) {x y : Checked} {room′ room″ : List ℕ}
+    → EvaluationAllows N t room x room′ → EvaluationAllows N t room y room″
     → (x ≡ y) × (room′ ≡ room″)
 evaluation-allows-one N t room o o′ = evaluation-determined N t room o o′
 
-pub evaluation-refused : (N : ℕ) (t room : List ℕ) {f : Refusal} {answer : EvaluationAnswer} {room′ : List ℕ} → evaluationFault N t (length room) ≡ Refused f
-    → EvaluationAllows N t room answer room′ → (answer ≡ EvaluationAnswer.Refused f) × (room′ ≡ room)
+pub evaluation-refused : (N : ℕ) (t room : List ℕ) {f : Refusal} {answer : Checked} {room′ : List ℕ} → evaluationFault N t (length room) ≡ Refused f
+    → EvaluationAllows N t room answer room′ → (answer ≡ Checked.Refused f) × (room′ ≡ room)
 evaluation-refused N t room e o = evaluation-determined N t room o (EvaluationAllows.refused e)
 
 -- the host's evaluation: the same over bytes, then 4 for a lone last byte; 2^32 × number + place
-pub host-evaluation-determined : (N : ℕ) (bytes room : List ℕ) {x y : ℕ} {room′ room″ : List ℕ} → HostEvaluation N bytes room x room′ → HostEvaluation N bytes room y room″
+pub host-evaluation-determined : (N : ℕ) (bytes room : List ℕ) {x y : ℕ} {room′ room″ : List ℕ}
+    → HostEvaluation N bytes room x room′ → HostEvaluation N bytes room y room″
     → (x ≡ y) × (room′ ≡ room″)
 host-evaluation-determined N bytes room o o′ = host-determined N bytes room o o′
 
-pub host-evaluation-refused : (N : ℕ) (bytes room : List ℕ) {f : Refusal} {answer : ℕ} {room′ : List ℕ} → hostFault N (wordsIn bytes) (loneByte bytes) (length room) ≡ Refused f
+pub host-evaluation-refused : (N : ℕ) (bytes room : List ℕ) {f : Refusal} {answer : ℕ} {room′ : List ℕ}
+    → hostFault N (wordsIn bytes) (loneByte bytes) (length room) ≡ Refused f
     → HostEvaluation N bytes room answer room′ → (answer ≡ packed f) × (room′ ≡ room)
 host-evaluation-refused N bytes room e o = host-determined N bytes room o (HostEvaluation.refused e)
 
 -- so an answer tells its cause: 0 if nothing refuses, else the fault that the order finds, with its number in the high half and its place in the low one
 pub host-evaluation-tells : (N : ℕ) (bytes room : List ℕ) {answer : ℕ} {room′ : List ℕ} → HostEvaluation N bytes room answer room′
     → ((hostFault N (wordsIn bytes) (loneByte bytes) (length room) ≡ Accepted) × (answer ≡ 0))
-    ⊎ ((f : Refusal) × (hostFault N (wordsIn bytes) (loneByte bytes) (length room) ≡ Refused f) × (answer ≡ packed f) × (1 ≤ f .number) × (f .place < 4294967296))
+    ⊎ ((f : Refusal) × (hostFault N (wordsIn bytes) (loneByte bytes) (length room) ≡ Refused f)
+    × (answer ≡ packed f) × (1 ≤ f .number) × (f .place < 4294967296))
 host-evaluation-tells = host-answer-tells
 
 pub host-evaluation-zero : (N : ℕ) (bytes room : List ℕ) {answer : ℕ} {room′ : List ℕ} → HostEvaluation N bytes room answer room′
@@ -226,7 +237,8 @@ pub host-sheet-allows-one : (s words names text : List ℕ) {x y : ℕ} {ws ws�
     → HostSheet s words names text y ws′ ns′ text″ → (x ≡ y) × (ws ≡ ws′) × (ns ≡ ns′) × (text′ ≡ text″)
 host-sheet-allows-one s words names text o o′ = host-sheet-determined s words names text o o′
 
-pub host-sheet-refused : (s words names text : List ℕ) {f : Refusal} {answer : ℕ} {ws ns text′ : List ℕ} → sheetOutcome s (length words / 2) (length names / 4) ≡ sheet.refused f
+pub host-sheet-refused : (s words names text : List ℕ) {f : Refusal} {answer : ℕ} {ws ns text′ : List ℕ}
+    → sheetOutcome s (length words / 2) (length names / 4) ≡ sheet.refused f
     → HostSheet s words names text answer ws ns text′
     → (answer ≡ packed f) × (ws ≡ wordsOver (padded (length words / 2) []) words) × (ns ≡ namesOver (padded (length names / 4) []) names) × (text′ ≡ text)
 host-sheet-refused s words names text e o = host-sheet-determined s words names text o (HostSheet.answered (SheetAllows.refused e))
@@ -252,15 +264,17 @@ model-exists N t accepted =
     (m .0, smallest-by-test (rulesOf t) one (m .0) .0 (m .1))
 
 -- evaluation writes the codes of the values, and no byte past them
-pub evaluation-values : (N : ℕ) (t room : List ℕ) {answer : EvaluationAnswer} {room′ : List ℕ} → evaluationFault N t (length room) ≡ Accepted → EvaluationAllows N t room answer room′
-    → (I : Interpretation) → SmallestWellSupported (rulesOf t) I → (answer ≡ EvaluationAnswer.Evaluated) × (room′ ≡ written (λ a. value I (positive a)) N room)
+pub evaluation-values : (N : ℕ) (t room : List ℕ) {answer : Checked} {room′ : List ℕ}
+    → evaluationFault N t (length room) ≡ Accepted → EvaluationAllows N t room answer room′
+    → (I : Interpretation) → SmallestWellSupported (rulesOf t) I → (answer ≡ Checked.Accepted) × (room′ ≡ written (λ a. value I (positive a)) N room)
 evaluation-values N t room e o I i =
     let one = accepted-one-rule N t (evaluated.evaluation-accepted N t (length room) e .1) in
     evaluation-determined N t room o (EvaluationAllows.evaluated e I (smallest-by-test (rulesOf t) one I .1 i))
 
 -- and so does the host's
 pub host-evaluation-values : (N : ℕ) (bytes room : List ℕ) {answer : ℕ} {room′ : List ℕ} → hostFault N (wordsIn bytes) (loneByte bytes) (length room) ≡ Accepted
-    → HostEvaluation N bytes room answer room′ → (I : Interpretation) → SmallestWellSupported (rulesOf (wordsIn bytes)) I → (answer ≡ 0) × (room′ ≡ written (λ a. value I (positive a)) N room)
+    → HostEvaluation N bytes room answer room′ → (I : Interpretation) → SmallestWellSupported (rulesOf (wordsIn bytes)) I
+    → (answer ≡ 0) × (room′ ≡ written (λ a. value I (positive a)) N room)
 host-evaluation-values N bytes room e o I i =
     let one = accepted-one-rule N (wordsIn bytes) (host-accepted N (wordsIn bytes) (loneByte bytes) (length room) e) in
     host-determined N bytes room o (HostEvaluation.evaluated e I (smallest-by-test (rulesOf (wordsIn bytes)) one I .1 i))
@@ -273,15 +287,21 @@ module _ (s : List ℕ) (wordRoom nameRoom : ℕ) (text : List ℕ) (x : Sofar) 
 
   module _ (I : Interpretation) (smallest : SmallestWellSupported (x .rules) I) where
     -- the value sheet by the written layout, with the values of the model ..
-    pub sheet-values : {answer : SheetAnswer} {ws ns text′ : List ℕ} → length (sheetOf s x I) ≤ length text → SheetAllows s wordRoom nameRoom text answer ws ns text′
+    pub sheet-values : {answer : SheetAnswer} {ws ns text′ : List ℕ}
+        → length (sheetOf s x I) ≤ length text → SheetAllows s wordRoom nameRoom text answer ws ns text′
         → (answer ≡ counts s x I) × (ws ≡ padded wordRoom (wordsOf (x .rules))) × (ns ≡ padded nameRoom (x .names))
         × (text′ ≡ sheetOf s x I ++ drop (length (sheetOf s x I)) text)
-    sheet-values h o = sheet-determined s wordRoom nameRoom text o (SheetAllows.accepted read (smallest-by-test (x .rules) (sheet-one-rule s wordRoom nameRoom x read) I .1 smallest) h)
+    sheet-values h o =
+        sheet-determined s wordRoom nameRoom text o
+        (SheetAllows.accepted read (smallest-by-test (x .rules) (sheet-one-rule s wordRoom nameRoom x read) I .1 smallest) h)
 
     -- .. or 15, where it does not fit
-    pub sheet-does-not-fit : {answer : SheetAnswer} {ws ns text′ : List ℕ} → length text < length (sheetOf s x I) → SheetAllows s wordRoom nameRoom text answer ws ns text′
+    pub sheet-does-not-fit : {answer : SheetAnswer} {ws ns text′ : List ℕ}
+        → length text < length (sheetOf s x I) → SheetAllows s wordRoom nameRoom text answer ws ns text′
         → (answer ≡ SheetAnswer.Refused (text-room-too-small (length (sheetOf s x I)))) × (ws ≡ padded wordRoom []) × (ns ≡ padded nameRoom []) × (text′ ≡ text)
-    sheet-does-not-fit h o = sheet-determined s wordRoom nameRoom text o (SheetAllows.does-not-fit read (smallest-by-test (x .rules) (sheet-one-rule s wordRoom nameRoom x read) I .1 smallest) h)
+    sheet-does-not-fit h o =
+        sheet-determined s wordRoom nameRoom text o
+        (SheetAllows.does-not-fit read (smallest-by-test (x .rules) (sheet-one-rule s wordRoom nameRoom x read) I .1 smallest) h)
 
 -- and so does the host's, over bytes
 module _ (s words names text : List ℕ) (x : Sofar) (read : sheetOutcome s (length words / 2) (length names / 4) ≡ sheet.accepted x)
@@ -303,7 +323,8 @@ module _ (s words names text : List ℕ) (x : Sofar) (read : sheetOutcome s (len
 -- ---- Demand 3. The order of work never matters: one accepted table, a fresh record, every list of picks.
 
 -- two lists of picks that settle, with repeats and refusals, leave equal records
-pub picks-end-the-same : (N : ℕ) (t : List ℕ) → AcceptedTable N t → {l l′ : List ℕ} {r r′ : MarkRecord} → Picks t (noMarksFor N) l r → Picks t (noMarksFor N) l′ r′
+pub picks-end-the-same : (N : ℕ) (t : List ℕ) → AcceptedTable N t
+    → {l l′ : List ℕ} {r r′ : MarkRecord} → Picks t (noMarksFor N) l r → Picks t (noMarksFor N) l′ r′
     → Settled (rulesOf t) (marksOf r) → Settled (rulesOf t) (marksOf r′) → r ≡ r′
 picks-end-the-same = rooms.same-record
 
@@ -319,38 +340,42 @@ module _ (N : ℕ) (t : List ℕ) (accepted : AcceptedTable N t) {l : List ℕ} 
   pick-marks-when-it-may a o = rooms.marks-when-it-may N t accepted picked a o
 
   -- a pick of an atom below N, the settled question and the count are never refused, and the report with room only before settled
-  pub pick-is-not-refused : (a : ℕ) → a < N → {answer : PickAnswer} {r′ : MarkRecord} → PickAllows r t a answer r′ → (f : Refusal) → answer ≡ PickAnswer.Refused f → ⊥
+  pub pick-is-not-refused : (a : ℕ) → a < N → {answer : PickAnswer} {r′ : MarkRecord}
+      → PickAllows r t a answer r′ → (f : Refusal) → answer ≡ PickAnswer.Refused f → ⊥
   pick-is-not-refused a lt o = rooms.pick-never-refused N t accepted picked a lt o
 
-  pub settled-is-not-refused : {answer : SettledAnswer} → SettledAllows r t answer → (f : Refusal) → answer ≡ SettledAnswer.Refused f → ⊥
+  pub settled-is-not-refused : {answer : Decided} → SettledAllows r t answer → (f : Refusal) → answer ≡ Decided.Refused f → ⊥
   settled-is-not-refused o = rooms.settled-never-refused N t accepted picked o
 
-  pub report-is-refused-before-settled : (room : List ℕ) → N ≤ length room → {answer : ReportAnswer} {room′ : List ℕ} → ReportAllows r t room answer room′
-      → (f : Refusal) → answer ≡ ReportAnswer.Refused f → (f ≡ not-settled) × (Settled (rulesOf t) (marksOf r) → ⊥)
+  pub report-is-refused-before-settled : (room : List ℕ) → N ≤ length room → {answer : Checked} {room′ : List ℕ} → ReportAllows r t room answer room′
+      → (f : Refusal) → answer ≡ Checked.Refused f → (f ≡ not-settled) × (Settled (rulesOf t) (marksOf r) → ⊥)
   report-is-refused-before-settled room fits o = rooms.report-refused-before-settled N t accepted picked room fits o
 
-  pub count-is-not-refused : {answer : CountAnswer} → CountAllows r answer → answer ≡ CountAnswer.Marks (count 512 (marksOf r))
+  pub count-is-not-refused : {answer : Numbered} → CountAllows r answer → answer ≡ Numbered.Number (count mostAtoms (marksOf r))
   count-is-not-refused o = rooms.count-never-refused N t accepted picked o
 
   module _ (settled : Settled (rulesOf t) (marksOf r)) (I : Interpretation) (smallest : SmallestWellSupported (rulesOf t) I) where
     -- when nothing can be marked the report is demand 2's values ..
-    pub report-is-the-values : (room : List ℕ) → N ≤ length room → {answer : ReportAnswer} {room′ : List ℕ} → ReportAllows r t room answer room′
-        → (answer ≡ ReportAnswer.Reported) × (room′ ≡ written (λ a. value I (positive a)) N room)
+    pub report-is-the-values : (room : List ℕ) → N ≤ length room → {answer : Checked} {room′ : List ℕ} → ReportAllows r t room answer room′
+        → (answer ≡ Checked.Accepted) × (room′ ≡ written (λ a. value I (positive a)) N room)
     report-is-the-values room fits o =
         rooms.report-after-picks N t accepted picked settled I (smallest-by-test (rulesOf t) (accepted-one-rule N t accepted) I .1 smallest) room fits o
 
     -- .. and the marks are as many as the inconsistent atoms
-    pub count-is-the-inconsistent : {answer : CountAnswer} → CountAllows r answer → answer ≡ CountAnswer.Marks (count 512 (inconsistent I))
-    count-is-the-inconsistent o = rooms.count-after-picks N t accepted picked settled I (smallest-by-test (rulesOf t) (accepted-one-rule N t accepted) I .1 smallest) o
+    pub count-is-the-inconsistent : {answer : Numbered} → CountAllows r answer → answer ≡ Numbered.Number (count mostAtoms (inconsistent I))
+    count-is-the-inconsistent o =
+        rooms.count-after-picks N t accepted picked settled I (smallest-by-test (rulesOf t) (accepted-one-rule N t accepted) I .1 smallest) o
 
   -- until then a pass over all atoms, in any order, marks at least one
-  pub pass-marks-at-least-one : (Settled (rulesOf t) (marksOf r) → ⊥) → (order : List ℕ) → ((a : ℕ) → a < N → a ∈ order) → {r′ : MarkRecord} → Picks t r order r′
+  pub pass-marks-at-least-one : (Settled (rulesOf t) (marksOf r) → ⊥) → (order : List ℕ)
+      → ((a : ℕ) → a < N → a ∈ order) → {r′ : MarkRecord} → Picks t r order r′
       → (a : ℕ) × CanBeMarked (rulesOf t) (marksOf r) a × Marked (marksOf r′) a
   pass-marks-at-least-one n order all p = rooms.pass-marks-at-least-one N t accepted picked n order all p
 
   -- and whole evaluation is that report
-  pub evaluation-is-the-report : (room : List ℕ) {answer : ReportAnswer} {x y : List ℕ} → EvaluationAllows N t room EvaluationAnswer.Evaluated x → Settled (rulesOf t) (marksOf r)
-      → ReportAllows r t room answer y → (answer ≡ ReportAnswer.Reported) × (x ≡ y)
+  pub evaluation-is-the-report : (room : List ℕ) {answer : Checked} {x y : List ℕ}
+      → EvaluationAllows N t room Checked.Accepted x → Settled (rulesOf t) (marksOf r)
+      → ReportAllows r t room answer y → (answer ≡ Checked.Accepted) × (x ≡ y)
   evaluation-is-the-report room {x = x} {y = y} o s w = evaluation-equals-report N t room x y o picked s w
 
 -- so N passes settle

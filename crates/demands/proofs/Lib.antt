@@ -1,2 +1,3 @@
--- One page: the three demands, about the public entries.
+-- One page: the three demands, about the public entries. Report serves it.
+mod Report
 pub mod Demands

@@ -1,30 +1,30 @@
 -- The settled marking's values are those of the smallest well-supported model. Assumes nothing.
-use mathlib.Core.Bool.{Bool, true, false}
+use mathlib.Core.Bool.{Bool, false}
 use mathlib.Core.List.{List}
-use mathlib.Core.Path.{_≡_, refl, sym, ap, _∙_, subst, subst⁻¹, fun-ext}
-use Prim.Native.Nat.{ℕ, _≤_, _<_}
-use lib.Dec.{T, leb}
+use mathlib.Core.Path.{_≡_, refl, ap, _∙_, subst⁻¹, fun-ext}
+use Prim.Native.Nat.{ℕ, _≤_}
+use lib.Dec.{leb}
 use lib.ListN.{length, replicate}
 use borrow.Author.Tests.{leb-true}
 use Rattle.refusal.specs.Numbers.{too-many-atoms, value-room-too-small}
-use Rattle.words.specs.declared.Checked.the-variants.{Accepted, Refused}
-use Rattle.words.specs.Check.{asking, orElse, tableCheck, AcceptedTable}
+use Rattle.refusal.specs.declared.Checked.the-variants.{Accepted}
+use Rattle.refusal.specs.Checks.{orElse}
+use Rattle.words.specs.Check.{tableCheck, AcceptedTable, tableTooLong, tooManyAtoms}
 use Rattle.words.specs.Layout.{rulesOf}
-use Rattle.words.proofs.Steps.{asking-accepted, orElse-accepted}
+use Rattle.refusal.proofs.Laws.{asking-accepted, orElse-accepted}
 use Rattle.words.proofs.Laws.{accepted-one-rule}
 use Rattle.paper.specs.Rules.{Rule, HeadsBelow, positive}
 use Rattle.paper.specs.Definitions.{value}
-use Rattle.paper.specs.Marking.{Held, IsClean, Marking, none, noMarks, settledValue}
+use Rattle.paper.specs.Marking.{IsClean, Marking, none, settledValue}
 use Rattle.paper.proofs.Leasts.{clean→held, held→clean}
 use Rattle.paper.proofs.Settled.{settledValue-is}
 use Rattle.paper.proofs.Smallest.{settled-smallest}
 use Rattle.bits.specs.Sets.{member}
 use Rattle.bits.proofs.Laws.{member-of-zeros}
 use Rattle.least.proofs.Marked.{none-held}
-use Rattle.marking.specs.Faults.{tableTooLong, roomTooSmall}
-use Rattle.picks.specs.Entries.{written}
-use Rattle.evaluation.specs.declared.EvaluationAnswer.{EvaluationAnswer}
-use Rattle.evaluation.specs.Evaluation.{evaluationFault, tooManyAtoms, EvaluationAllows}
+use Rattle.values.specs.Values.{roomTooSmall, written}
+use Rattle.refusal.specs.declared.Checked.{Checked}
+use Rattle.evaluation.specs.Evaluation.{evaluationFault, EvaluationAllows}
 use Rattle.evaluation.specs.Rounds.{RoundOver, Begun, Settling}
 use Rattle.evaluation.proofs.Rounds.{round-settles}
 
@@ -40,7 +40,8 @@ begins R =
     }
 
 -- the first round: with no marks the clean literals are the held ones
-pub first-round : (R : List Rule) (n : ℕ) → HeadsBelow n R → n ≤ 512 → (h s′ : List ℕ) (any : Bool) → length h ≡ 16 → IsClean R (member (replicate 8 0)) (member h)
+pub first-round : (R : List Rule) (n : ℕ) → HeadsBelow n R → n ≤ 512
+    → (h s′ : List ℕ) (any : Bool) → length h ≡ 16 → IsClean R (member (replicate 8 0)) (member h)
     → RoundOver (replicate 8 0) (member h) (member h) n any s′ → Settling R s′ h any
 first-round R n below le h s′ any len clean o =
     round-settles R n below le (replicate 8 0) s′ (replicate 16 0) h any (begins R)
@@ -63,10 +64,11 @@ evaluation-accepted N t room e =
     (leb-true N 512 (a .0), r .1, leb-true N room (s .0))
 
 pub settled-evaluates : (N : ℕ) (t room m h room′ : List ℕ) → evaluationFault N t (length room) ≡ Accepted → Settling (rulesOf t) m h false
-    → room′ ≡ written (settledValue (member m) (member h)) N room → EvaluationAllows N t room EvaluationAnswer.Evaluated room′
+    → room′ ≡ written (settledValue (member m) (member h)) N room → EvaluationAllows N t room Checked.Accepted room′
 settled-evaluates N t room m h room′ e s w =
     let a = evaluation-accepted N t (length room) e in
     let q = s .settled refl in
-    let v : settledValue (member m) (member h) ≡ (λ x. value (member h) (positive x)) = fun-ext (settledValue-is (rulesOf t) (member m) (member h) (q .0) (q .1)) in
-    subst⁻¹ (EvaluationAllows N t room EvaluationAnswer.Evaluated) (w ∙ ap (λ f. written f N room) v)
+    let v : settledValue (member m) (member h) ≡ (λ x. value (member h) (positive x)) =
+    fun-ext (settledValue-is (rulesOf t) (member m) (member h) (q .0) (q .1)) in
+    subst⁻¹ (EvaluationAllows N t room Checked.Accepted) (w ∙ ap (λ f. written f N room) v)
     (EvaluationAllows.evaluated e (member h) (settled-smallest (rulesOf t) (accepted-one-rule N t (a .1)) (s .begun .marking) (q .1) (member h) (q .0)))

@@ -1,34 +1,31 @@
 -- What an outcome of evaluation tells: 19 never comes, and two allowed outcomes are equal. Assumes nothing.
 use mathlib.Core.Bool.{Bool, true, false}
 use mathlib.Core.List.{List}
-use mathlib.Core.Path.{_≡_, refl, sym, ap, _∙_, subst, subst⁻¹}
-use Prim.Native.Nat.{ℕ, _≤_, _<_}
+use mathlib.Core.Path.{_≡_, refl, sym, ap, _∙_}
+use Prim.Native.Nat.{ℕ}
 use native.Mathlib.Omega.{arith}
 use lib.Dec.{leb}
 use lib.ListN.{length}
 use borrow.Author.Tests.{leb-true}
 use Rattle.refusal.specs.declared.Refusal.{Refusal}
-use Rattle.refusal.specs.Numbers.{too-many-atoms, table-too-long, value-room-too-small, never-settled}
-use Rattle.words.specs.declared.Checked.{Checked}
-use Rattle.words.specs.declared.Checked.the-variants.{Accepted, Refused}
-use Rattle.words.specs.Check.{asking, orElse, tableCheck}
+use Rattle.refusal.specs.Numbers.{too-many-atoms, table-too-long, value-room-too-small}
+use Rattle.refusal.specs.declared.Checked.{Checked}
+use Rattle.refusal.specs.declared.Checked.the-variants.{Accepted, Refused}
+use Rattle.refusal.specs.Checks.{asking, orElse}
+use Rattle.words.specs.Check.{tableCheck, tableTooLong, tooManyAtoms}
 use Rattle.words.specs.Layout.{rulesOf}
-use Rattle.words.proofs.Laws.{refused≢accepted, accepted-heads}
-use Rattle.words.proofs.Bounds.{Within, asking-within, orElse-within, within-more, check-within}
+use Rattle.refusal.proofs.Laws.{refused≢accepted}
+use Rattle.words.proofs.Laws.{accepted-heads}
+use Rattle.refusal.proofs.Places.{PlacesTo, asking-to, orElse-to, to-more}
+use Rattle.words.proofs.Bounds.{check-within}
 use Rattle.paper.specs.Rules.{positive}
 use Rattle.paper.specs.Definitions.{Interpretation, value, Smallest}
 use Rattle.paper.specs.Marking.{Marks, Marking, Settled}
 use Rattle.paper.proofs.Order.{marking-count, all-marked→settled}
-use Rattle.paper.proofs.Counting.{count-full}
+use Rattle.sets.proofs.Counting.{count-full}
 use Rattle.paper.proofs.Smallest.{smallest-unique}
-use Rattle.marking.specs.Faults.{tableTooLong, roomTooSmall}
-use Rattle.picks.specs.declared.MarkRecord.{MarkRecord}
-use Rattle.picks.specs.declared.ReportAnswer.{ReportAnswer}
-use Rattle.picks.specs.Entries.{written, marksOf, noMarksFor, ReportAllows}
-use Rattle.picks.specs.Traces.{Picks}
-use Rattle.picks.proofs.Demand3.{report-after-picks}
-use Rattle.evaluation.specs.declared.EvaluationAnswer.{EvaluationAnswer}
-use Rattle.evaluation.specs.Evaluation.{evaluationFault, tooManyAtoms, EvaluationAllows, refused, never-settles, evaluated}
+use Rattle.values.specs.Values.{roomTooSmall, written}
+use Rattle.evaluation.specs.Evaluation.{evaluationFault, EvaluationAllows, refused, never-settles, evaluated}
 use Rattle.evaluation.proofs.Evaluated.{evaluation-accepted}
 
 -- with N marks made an evaluation is settled: 19 can't happen
@@ -38,21 +35,22 @@ always-settles N t room e A m =
     let below = accepted-heads N t (a .1) in
     all-marked→settled (rulesOf t) N below A (count-full N A (let c = marking-count (rulesOf t) N below m in omega arith))
 
-pub refused-is : (N : ℕ) (t room room′ : List ℕ) (ans : EvaluationAnswer) (r : Refusal) → EvaluationAllows N t room ans room′ → ans ≡ EvaluationAnswer.Refused r
+pub refused-is : (N : ℕ) (t room room′ : List ℕ) (ans : Checked) (r : Refusal) → EvaluationAllows N t room ans room′ → ans ≡ Checked.Refused r
     → (evaluationFault N t (length room) ≡ Refused r) × (room′ ≡ room)
 refused-is N t room room′ ans r (refused {f} e) p = let q : f ≡ r = cc in (e ∙ ap Refused q, refl)
 refused-is N t room room′ ans r (never-settles e A m n) p = absurd (n (always-settles N t (length room) e A m))
 refused-is N t room room′ ans r (evaluated e I s) p = let z : _≡_ {A = ℕ} 0 1 = cc in absurd (omega arith)
 
-pub evaluated-is : (N : ℕ) (t room room′ : List ℕ) (ans : EvaluationAnswer) → EvaluationAllows N t room ans room′ → ans ≡ EvaluationAnswer.Evaluated
+pub evaluated-is : (N : ℕ) (t room room′ : List ℕ) (ans : Checked) → EvaluationAllows N t room ans room′ → ans ≡ Checked.Accepted
     → (evaluationFault N t (length room) ≡ Accepted) × ((I : Interpretation) × Smallest (rulesOf t) I × (room′ ≡ written (λ a. value I (positive a)) N room))
 evaluated-is N t room room′ ans (refused {f} e) p = let z : _≡_ {A = ℕ} 0 1 = cc in absurd (omega arith)
 evaluated-is N t room room′ ans (never-settles e A m n) p = let z : _≡_ {A = ℕ} 0 1 = cc in absurd (omega arith)
 evaluated-is N t room room′ ans (evaluated e I s) p = (e, (I, s, refl))
 
 -- two outcomes that the promise allows are equal
-pub evaluation-determined : (N : ℕ) (t room : List ℕ) {a b : EvaluationAnswer} {x y : List ℕ} → EvaluationAllows N t room a x → EvaluationAllows N t room b y → (a ≡ b) × (x ≡ y)
-evaluation-determined N t room (refused {f} e) (refused {f = g} e′) = let q : f ≡ g = cc in (ap EvaluationAnswer.Refused q, refl)
+pub evaluation-determined : (N : ℕ) (t room : List ℕ) {a b : Checked} {x y : List ℕ}
+    → EvaluationAllows N t room a x → EvaluationAllows N t room b y → (a ≡ b) × (x ≡ y)
+evaluation-determined N t room (refused {f} e) (refused {f = g} e′) = let q : f ≡ g = cc in (ap Checked.Refused q, refl)
 evaluation-determined N t room (refused {f} e) (never-settles e′ A m n) = absurd (refused≢accepted f (sym e ∙ e′))
 evaluation-determined N t room (refused {f} e) (evaluated e′ I s) = absurd (refused≢accepted f (sym e ∙ e′))
 evaluation-determined N t room (never-settles e A m n) o = absurd (n (always-settles N t (length room) e A m))
@@ -62,23 +60,16 @@ evaluation-determined N t room (evaluated e I s) (evaluated e′ J s′) =
     (refl, ap (λ (K : Interpretation). written (λ a. value K (positive a)) N room) (smallest-unique (rulesOf t) I J s s′))
 
 -- a refusal's number and place have bounds: a longer table is refused at 0
-pub evaluation-within : (N : ℕ) (t : List ℕ) (room : ℕ) → Within 8192 (evaluationFault N t room)
+pub evaluation-within : (N : ℕ) (t : List ℕ) (room : ℕ) → PlacesTo 8192 (evaluationFault N t room)
 unfolding evaluationFault
 evaluation-within N t room =
-    orElse-within 8192 (tooManyAtoms N) (orElse (tableTooLong t) (orElse (roomTooSmall N room) (tableCheck N t)))
-    (asking-within 8192 (leb N 512) too-many-atoms Accepted (omega arith, omega arith, omega arith) tt) (go (leb (length t) 8192) refl)
+    orElse-to 8192 (tooManyAtoms N) (orElse (tableTooLong t) (orElse (roomTooSmall N room) (tableCheck N t)))
+    (asking-to 8192 (leb N 512) too-many-atoms Accepted (omega arith, omega arith, omega arith) tt) (go (leb (length t) 8192) refl)
   where
-    go : (short : Bool) → leb (length t) 8192 ≡ short → Within 8192 (orElse (asking short table-too-long Accepted) (orElse (roomTooSmall N room) (tableCheck N t)))
+    go : (short : Bool) → leb (length t) 8192 ≡ short
+        → PlacesTo 8192 (orElse (asking short table-too-long Accepted) (orElse (roomTooSmall N room) (tableCheck N t)))
     go false p = (omega arith, omega arith, omega arith)
     go true p =
-        orElse-within 8192 (roomTooSmall N room) (tableCheck N t) (asking-within 8192 (leb N room) value-room-too-small Accepted (omega arith, omega arith, omega arith) tt)
-        (within-more (length t) 8192 (leb-true (length t) 8192 p) (tableCheck N t) (check-within N t))
-
--- whole evaluation equals the report after picks from a fresh record until settled, in any order
-pub evaluation-equals-report : (N : ℕ) (t room x y : List ℕ) {l : List ℕ} {r : MarkRecord} {answer : ReportAnswer} → EvaluationAllows N t room EvaluationAnswer.Evaluated x
-    → Picks t (noMarksFor N) l r → Settled (rulesOf t) (marksOf r) → ReportAllows r t room answer y → (answer ≡ ReportAnswer.Reported) × (x ≡ y)
-evaluation-equals-report N t room x y o picks s w =
-    let e = evaluated-is N t room x EvaluationAnswer.Evaluated o refl in
-    let a = evaluation-accepted N t (length room) (e .0) in
-    let q = report-after-picks N t (a .1) picks s (e .1 .0) (e .1 .1) room (a .2) w in
-    (q .0, e .1 .2 ∙ sym (q .1))
+        orElse-to 8192
+        (roomTooSmall N room) (tableCheck N t) (asking-to 8192 (leb N room) value-room-too-small Accepted (omega arith, omega arith, omega arith) tt)
+        (to-more (length t) 8192 (leb-true (length t) 8192 p) (tableCheck N t) (check-within N t))

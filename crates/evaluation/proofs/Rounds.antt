@@ -1,18 +1,20 @@
 -- A round marks as if one at a time; rounds come to a settled marking. Assumes nothing.
 use mathlib.Core.Bool.{Bool, true, false, not, cond, _&&_, _||_, true≢false, false≢true}
 use mathlib.Core.List.{List}
-use mathlib.Core.Path.{_≡_, refl, sym, ap, ap₂, _∙_, subst, subst⁻¹}
-use Prim.Native.Nat.{ℕ, zero, suc, _+_, _-_, _*_, _≤_, _<_}
+use mathlib.Core.Path.{_≡_, refl, ap, ap₂, _∙_, subst, subst⁻¹}
+use Prim.Native.Nat.{ℕ, zero, suc, _+_, _-_, _≤_, _<_}
 use native.Mathlib.Numerals.{add-one}
 use native.Mathlib.Omega.{arith}
-use lib.Dec.{T, T-not, eqb}
+use lib.Dec.{T}
 use lib.ListN.{length}
 use borrow.Author.Tests.{ne-eqb}
 use Rattle.paper.specs.Rules.{Rule, HeadsBelow}
-use Rattle.paper.specs.Marking.{Marks, Held, CanBeMarked, Settled, Marking, one-more, mark, count, IsHeld, IsClean}
-use Rattle.paper.proofs.Leasts.{can-be-marked-mono, mark-⊇, held-mono}
-use Rattle.paper.proofs.Counting.{count-mark, count≤}
-use Rattle.paper.proofs.Tests.{and-left, true→T, false→not}
+use Rattle.paper.specs.Marking.{CanBeMarked, Settled, Marking, one-more, IsHeld}
+use Rattle.sets.specs.Sets.{_with_, count}
+use Rattle.paper.proofs.Leasts.{can-be-marked-mono, held-mono}
+use Rattle.sets.proofs.Besides.{with-⊇}
+use Rattle.sets.proofs.Counting.{count-with, count≤}
+use Rattle.sets.proofs.Tests.{and-left, true→T}
 use Rattle.bits.specs.Sets.{member, putIn}
 use Rattle.bits.proofs.Laws.{member-putIn, length-putIn}
 use Rattle.marking.specs.Markable.{markable, markableBelow, conflicts}
@@ -43,14 +45,14 @@ module _ (s : List ℕ) (H C : ℕ → Bool) (len : length s ≡ 8) where
     looked-marking : one a ≡ true → Looked s H C (suc a) (true || before a) (putIn (so-far a) a)
     looked-marking e =
         let eight : length (so-far a) ≡ 8 = k .length-same ∙ len in
-        let m : member (putIn (so-far a) a) ≡ mark (member (so-far a)) a = member-putIn (so-far a) a (omega arith) in
+        let m : member (putIn (so-far a) a) ≡ (member (so-far a) with a) = member-putIn (so-far a) a (omega arith) in
         let u₀ : T (not (member s a)) = and-left (not (member s a)) (conflicts H C a) (true→T (one a) e) in
         let u : T (not (member (so-far a) a)) = subst⁻¹ (λ (b : Bool). T (not b)) (k .ahead a (omega arith)) u₀ in
-        let c : count 512 (member (putIn (so-far a) a)) ≡ suc (count 512 (member (so-far a))) = ap (count 512) m ∙ count-mark 512 (member (so-far a)) a lt u in
+        let c : count 512 (member (putIn (so-far a) a)) ≡ suc (count 512 (member (so-far a))) = ap (count 512) m ∙ count-with 512 (member (so-far a)) a lt u in
         record {
           ahead = λ b h. ap (λ (f : ℕ → Bool). f b) m ∙ rw (ne-eqb b a (λ p. omega arith)) (k .ahead b (omega arith));
           length-same = length-putIn (so-far a) a ∙ k .length-same;
-          more = λ b h. subst⁻¹ (λ (f : ℕ → Bool). T (f b)) m (mark-⊇ (member (so-far a)) a b (k .more b h));
+          more = λ b h. subst⁻¹ (λ (f : ℕ → Bool). T (f b)) m (with-⊇ (member (so-far a)) a b (k .more b h));
           one-at-a-time = λ R f n w.
               let q = k .one-at-a-time R f n w in
               let can : CanBeMarked R (member (so-far a)) a = can-be-marked-mono (member s) (member (so-far a)) (k .more) a u (f a (true→T (one a) e)) in
@@ -79,7 +81,14 @@ module _ (s : List ℕ) (H C : ℕ → Bool) (len : length s ≡ 8) where
   looked : (n : ℕ) → n ≤ 512 → Looked s H C n (before n) (so-far n)
   unfolding markableBelow markedBelow
   looked zero h =
-      record { ahead = λ b h. refl; length-same = refl; more = λ b h. h; one-at-a-time = λ R f k m. (k, m); unchanged = λ e. refl; grew = λ e. absurd (false≢true e) }
+      record {
+        ahead = λ b h. refl;
+        length-same = refl;
+        more = λ b h. h;
+        one-at-a-time = λ R f k m. (k, m);
+        unchanged = λ e. refl;
+        grew = λ e. absurd (false≢true e);
+      }
   looked (suc a) h = looked-at-one a (omega arith) (looked a (omega arith)) (one a) refl
 
   -- a turn looks at one atom more: by the marks at hand it can be marked exactly if it could by those before the round
@@ -90,7 +99,10 @@ module _ (s : List ℕ) (H C : ℕ → Bool) (len : length s ≡ 8) where
       let here : member s₁ a ≡ member s a = ap (λ (x : List ℕ). member x a) (o .marks-are) ∙ looked a (omega arith) .ahead a (omega arith) in
       let same : marked ≡ one a = e ∙ ap (λ (b : Bool). not b && conflicts H C a) here in
       rw (add-one a)
-      (record { marks-are = es ∙ ap₂ (λ (x : List ℕ) (b : Bool). markedOne x a b) (o .marks-are) same; any-is = ea ∙ ap₂ (λ (b c : Bool). b || c) same (o .any-is) })
+      (record {
+        marks-are = es ∙ ap₂ (λ (x : List ℕ) (b : Bool). markedOne x a b) (o .marks-are) same;
+        any-is = ea ∙ ap₂ (λ (b c : Bool). b || c) same (o .any-is);
+      })
 
   pub over-looked : (n : ℕ) (any : Bool) (s′ : List ℕ) → n ≤ 512 → RoundOver s H C n any s′ → Looked s H C n any s′
   over-looked n any s′ h o = rw (o .marks-are, o .any-is) (looked n h)

@@ -1,4 +1,4 @@
--- What a round of marking does: every atom that can be marked is marked, as if one at a time.
+-- Stage: a round of marking: every atom that can be marked is marked, as if one at a time.
 use mathlib.Core.Bool.{Bool, true, false}
 use mathlib.Core.List.{List}
 use mathlib.Core.Path.{_≡_}

@@ -8,17 +8,18 @@ use native.Mathlib.Omega.{arith}
 use lib.ListN.{length}
 use Rattle.refusal.specs.declared.Refusal.{Refusal}
 use Rattle.refusal.specs.Numbers.{cut-short}
-use Rattle.words.specs.declared.Checked.{Checked}
-use Rattle.words.specs.declared.Checked.the-variants.{Accepted, Refused}
-use Rattle.words.specs.Check.{asking, orElse, AcceptedTable}
+use Rattle.refusal.specs.declared.Checked.{Checked}
+use Rattle.refusal.specs.declared.Checked.the-variants.{Accepted, Refused}
+use Rattle.refusal.specs.Checks.{asking, orElse}
+use Rattle.words.specs.Check.{AcceptedTable}
 use Rattle.words.specs.Layout.{rulesOf}
-use Rattle.words.proofs.Bounds.{Within, asking-within}
-use Rattle.words.proofs.Steps.{orElse-accepted}
-use Rattle.words.proofs.Laws.{refused≢accepted, accepted-length}
+use Rattle.refusal.proofs.Places.{PlacesTo, asking-to}
+use Rattle.refusal.proofs.Laws.{orElse-accepted, refused≢accepted}
+use Rattle.words.proofs.Laws.{accepted-length}
 use Rattle.paper.specs.Rules.{positive}
 use Rattle.paper.specs.Definitions.{Interpretation, value}
 use Rattle.paper.proofs.Smallest.{smallest-unique}
-use Rattle.picks.specs.Entries.{written}
+use Rattle.values.specs.Values.{written}
 use Rattle.evaluation.specs.Evaluation.{evaluationFault}
 use Rattle.evaluation.proofs.Evaluated.{evaluation-accepted}
 use Rattle.evaluation.proofs.Laws.{evaluation-within}
@@ -31,7 +32,8 @@ unfolding hostFault
 host-accepted N t lone room e =
     evaluation-accepted N t room (orElse-accepted (evaluationFault N t room) (asking (not lone) (cut-short (length t)) Accepted) e .0) .1
 
-pub host-determined : (N : ℕ) (bytes room : List ℕ) {a b : ℕ} {x y : List ℕ} → HostEvaluation N bytes room a x → HostEvaluation N bytes room b y → (a ≡ b) × (x ≡ y)
+pub host-determined : (N : ℕ) (bytes room : List ℕ) {a b : ℕ} {x y : List ℕ}
+    → HostEvaluation N bytes room a x → HostEvaluation N bytes room b y → (a ≡ b) × (x ≡ y)
 host-determined N bytes room (HostEvaluation.refused {f} e) (HostEvaluation.refused {f = g} e′) = let q : f ≡ g = cc in (ap packed q, refl)
 host-determined N bytes room (HostEvaluation.refused {f} e) (HostEvaluation.evaluated e′ I s) = absurd (refused≢accepted f (sym e ∙ e′))
 host-determined N bytes room (HostEvaluation.evaluated e I s) (HostEvaluation.refused {f} e′) = absurd (refused≢accepted f (sym e′ ∙ e))
@@ -39,22 +41,22 @@ host-determined N bytes room (HostEvaluation.evaluated e I s) (HostEvaluation.ev
     (refl, ap (λ (K : Interpretation). written (λ a. value K (positive a)) N room) (smallest-unique (rulesOf (wordsIn bytes)) I J s s′))
 
 -- a refusal's number is not 0, and number and place have room in the answer
-host-within : (N : ℕ) (t : List ℕ) (lone : Bool) (room : ℕ) → Within 8192 (hostFault N t lone room)
+host-within : (N : ℕ) (t : List ℕ) (lone : Bool) (room : ℕ) → PlacesTo 8192 (hostFault N t lone room)
 unfolding hostFault
 host-within N t lone room = go (evaluationFault N t room) refl
   where
-    go : (x : Checked) → evaluationFault N t room ≡ x → Within 8192 (orElse x (asking (not lone) (cut-short (length t)) Accepted))
-    go (Refused f) e = subst (Within 8192) e (evaluation-within N t room)
+    go : (x : Checked) → evaluationFault N t room ≡ x → PlacesTo 8192 (orElse x (asking (not lone) (cut-short (length t)) Accepted))
+    go (Refused f) e = subst (PlacesTo 8192) e (evaluation-within N t room)
     go Accepted e =
         let short = accepted-length N t (evaluation-accepted N t room e .1) in
-        asking-within 8192 (not lone) (cut-short (length t)) Accepted (omega arith, omega arith, omega arith) tt
+        asking-to 8192 (not lone) (cut-short (length t)) Accepted (omega arith, omega arith, omega arith) tt
 
 -- an answer tells its cause: 0 exactly if nothing refuses, else the fault that the written order finds
 pub host-answer-tells : (N : ℕ) (bytes room : List ℕ) {a : ℕ} {room′ : List ℕ} → HostEvaluation N bytes room a room′
     → ((hostFault N (wordsIn bytes) (loneByte bytes) (length room) ≡ Accepted) × (a ≡ 0))
     ⊎ ((f : Refusal) × (hostFault N (wordsIn bytes) (loneByte bytes) (length room) ≡ Refused f) × (a ≡ packed f) × (1 ≤ f .number) × (f .place < 4294967296))
 host-answer-tells N bytes room (HostEvaluation.refused {f} e) =
-    let k : Within 8192 (Refused f) = subst (Within 8192) e (host-within N (wordsIn bytes) (loneByte bytes) (length room)) in
+    let k : PlacesTo 8192 (Refused f) = subst (PlacesTo 8192) e (host-within N (wordsIn bytes) (loneByte bytes) (length room)) in
     inr (f, e, refl, k .2, omega (arith, k .1))
 host-answer-tells N bytes room (HostEvaluation.evaluated e I s) = inl (e, refl)
 

@@ -1,9 +1,9 @@
--- Document 01, "What is built": a word goes as two bytes, low byte first.
-use mathlib.Core.Bool.{Bool, true, false}
+-- Believed: a word goes as two bytes, low byte first.
+use mathlib.Core.Bool.{Bool}
 use mathlib.Core.List.{List, [], _∷_}
-use Prim.Native.Nat.{ℕ, _+_, _*_, _/_, _%_}
+use Prim.Native.Nat.{ℕ, _+_, _*_, _%_}
 use lib.Dec.{eqb}
-use lib.ListN.{length, getD}
+use lib.ListN.{length}
 
 -- the whole words of a row of bytes; a lone last byte is none
 unfoldable pub wordsIn : List ℕ → List ℕ
@@ -14,7 +14,3 @@ wordsIn (low ∷ high ∷ bytes) = (low + 256 * high) ∷ wordsIn bytes
 -- is there a lone last byte
 abbrev pub loneByte : List ℕ → Bool
 loneByte bytes = eqb (length bytes % 2) 1
-
--- the word at a place, read from the bytes
-abbrev pub wordAt : List ℕ → ℕ → ℕ
-wordAt bytes i = getD bytes (2 * i) 0 + 256 * getD bytes (2 * i + 1) 0

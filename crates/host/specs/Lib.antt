@@ -1,3 +1,3 @@
--- What the host hands over and gets back: bytes, and one 64-bit answer.
 pub mod Bytes
 pub mod Evaluation
+pub mod WholeWords

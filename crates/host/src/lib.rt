@@ -1,13 +1,14 @@
-use evaluation::EvaluationAnswer;
+use refusal::Checked;
 use refusal::Refusal;
-use words::Checked;
 ghost use mathlib.Core.Path.{_≡_};
 ghost use mathlib.Core.List.{_++_};
 ghost use mathlib.Core.Bool.{Bool};
 ghost use Prim.Native.Nat.{_+_, _*_, _/_, _≤_, _<_};
-ghost use lib.ListN.{length, drop, getD};
-ghost use Rattle.host.specs.Bytes.{wordsIn, loneByte, wordAt};
-ghost use Rattle.host.specs.Evaluation.{hostFault, HostEvaluation, WordsEvaluation, tooLongAnswer, packed, Packable};
+ghost use lib.ListN.{length, drop};
+ghost use Rattle.limits.specs.Limits.{mostWords};
+ghost use Rattle.host.specs.Bytes.{wordsIn};
+ghost use Rattle.host.specs.WholeWords.{wordAt, WordsEvaluation, tooLongAnswer, Packable};
+ghost use Rattle.host.specs.Evaluation.{hostFault, HostEvaluation, packed};
 
 // A word of two bytes, low byte first.
 fn word_of(bytes: &[u8], i: usize) -> u16
@@ -48,21 +49,15 @@ pub fn pack(r: Refusal) -> u64
     4294967296 * number + place
 }
 
-fn refused(number: u64, place: u64) -> Refusal
-    ensures { λ r. ⌜ r ≡ (record { number = number; place = place }) ⌝ }
-{
-    Refusal { number, place }
-}
-
 // The answer for words that were accepted or refused, before a lone byte is looked at.
 fn cut_short(n: u64, words: &[u16], room: u64) -> Refusal
-    requires { ⌜ length (now words) ≤ 8192 ⌝ }
+    requires { ⌜ length (now words) ≤ mostWords ⌝ }
     ensures { λ r. ⌜ (hostFault n (now (words .entry)) Bool.true room ≡ Checked.Refused r) × Packable r ⌝ }
 {
     if let Checked::Refused(r) = evaluation::evaluation_fault(n, words, room) {
         return r;
     }
-    refused(refusal::CUT_SHORT, words.len() as u64)
+    refusal::at(refusal::CUT_SHORT, words.len())
 }
 
 // Whole words, and no byte after them.
@@ -70,8 +65,8 @@ fn evaluate_words(n: u64, words: &[u16], values: &mut [u8]) -> u64
     ensures { λ a. ⌜ WordsEvaluation n (now (words .entry)) (now (values .entry)) a (now (values .exit)) ⌝ }
 {
     match evaluation::evaluate(n, words, values) {
-        EvaluationAnswer::Evaluated => 0,
-        EvaluationAnswer::Refused(r) => pack(r),
+        Checked::Accepted => 0,
+        Checked::Refused(r) => pack(r),
     }
 }
 
@@ -79,7 +74,7 @@ fn evaluate_words(n: u64, words: &[u16], values: &mut [u8]) -> u64
 fn too_long(n: u64) -> u64
     ensures { λ a. ⌜ a ≡ tooLongAnswer n ⌝ }
 {
-    if 512 < n {
+    if limits::MOST_N < n {
         return 4294967296 * refusal::TOO_MANY_ATOMS;
     }
     4294967296 * refusal::TABLE_TOO_LONG
@@ -90,10 +85,10 @@ pub fn evaluate_bytes(n: u64, table: &[u8], values: &mut [u8]) -> u64
     ensures { λ a. ⌜ HostEvaluation n (now (table .entry)) (now (values .entry)) a (now (values .exit)) ⌝ }
 {
     let m = table.len() / 2;
-    if 8192 < m {
+    if limits::MOST_WORDS < m {
         return too_long(n);
     }
-    let mut words = [0u16; 8192];
+    let mut words = [0u16; limits::MOST_WORDS];
     fill_words(table, &mut words);
     if table.len() % 2 == 1 {
         return pack(cut_short(n, &words[..m], values.len() as u64));

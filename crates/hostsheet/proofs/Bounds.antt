@@ -8,49 +8,48 @@ use native.Mathlib.Omega.{arith}
 use lib.Dec.{leb, eqb}
 use lib.ListN.{length, drop}
 use borrow.Author.Tests.{leb-true}
+use Rattle.refusal.proofs.Laws.{demanding-holds}
 use Rattle.refusal.specs.declared.Refusal.{Refusal}
 use Rattle.refusal.specs.Numbers.{text-room-too-small}
 use Rattle.paper.specs.Table1.{code}
 use Rattle.paper.specs.Rules.{positive}
 use Rattle.paper.specs.Definitions.{Interpretation, value, Smallest, SmallestWellSupported}
 use Rattle.paper.proofs.Theorems.{smallest-by-test}
-use Rattle.words.specs.declared.Checked.{Checked}
-use Rattle.words.specs.declared.Checked.the-variants.{Accepted, Refused as Faulty}
-use Rattle.words.proofs.Bounds.{Within, asking-within}
+use Rattle.refusal.specs.declared.Checked.{Checked}
+use Rattle.refusal.specs.declared.Checked.the-variants.{Accepted, Refused as Faulty}
+use Rattle.refusal.proofs.Places.{PlacesTo, asking-to, Small}
 use Rattle.reader.specs.declared.Role.{Role}
 use Rattle.reader.specs.declared.Role.the-variants.{Head, First, Further}
 use Rattle.reader.specs.declared.SheetLiteral.{SheetLiteral}
 use Rattle.reader.specs.declared.Reading.{Reading}
 use Rattle.reader.specs.declared.Reading.the-variants.{End, Refused as NotRead, Literal}
 use Rattle.reader.specs.Sheet.{byteAt, isLineEnd, isTab, isSpace, isMinus, startsName, nameRun, mayFollow, byteBefore}
-use Rattle.reader.specs.Readings.{asking, endedName, nameAt, literalAt, lineAt, readingAfter, readingAt, placeAfter}
+use Rattle.refusal.specs.Checks.{demanding}
+use Rattle.reader.specs.Readings.{endedName, nameAt, literalAt, lineAt, readingAfter, readingAt, placeAfter}
 use Rattle.reader.proofs.Laws.{literal-read}
-use Rattle.sheetwords.specs.Sheets.{Sofar, Outcome, accepted, refused, nothing, after, isHead, literalFault, faultWith, unless, byReading, demanding, sheetFrom, sheetOutcome}
+use Rattle.literals.specs.Literals.{Sofar, nothing, after, isHead, literalFault, faultWith}
+use Rattle.sheetwords.specs.Sheets.{Outcome, accepted, refused, unless, byReading, sheetFrom, sheetOutcome}
 use Rattle.sheetwords.proofs.Laws.{sheet-within}
-use Rattle.valuesheet.specs.ValueSheet.{hasLine, lineBytes, bytesFrom}
+use Rattle.valuesheet.specs.ValueSheet.{hasLine}
+use Rattle.valuesheet.specs.Fitting.{lineBytes, bytesFrom}
 use Rattle.valuesheet.proofs.Printing.{lines-length}
 use Rattle.sheets.specs.declared.SheetAnswer.{SheetAnswer}
 use Rattle.sheets.specs.SheetEntry.{SheetAllows, sheetOf}
 use Rattle.sheets.proofs.Laws.{sheet-settles, sheet-one-rule}
-use Rattle.host.specs.Evaluation.{packed, Packable}
-use Rattle.hostsheet.specs.SheetBytes.{HasRoom, HostSheet}
+use Rattle.host.specs.Evaluation.{packed}
+use Rattle.host.specs.WholeWords.{Packable}
+use Rattle.hostsheet.specs.Rooms.{HasRoom}
+use Rattle.hostsheet.specs.SheetBytes.{HostSheet}
 
 -- no refusal's place is further than this: a name's 25th byte, just past the longest sheet
 abbrev furthest : ℕ
 furthest = 65561
 
-abbrev Small : Refusal → Type 0
-Small f = (f .number ≤ 18) × (f .place ≤ furthest) × (1 ≤ f .number)
-
 -- the reader's refusals
 abbrev SmallReading : Reading → Type 0
 SmallReading End = Unit {0}
-SmallReading (NotRead f) = Small f
+SmallReading (NotRead f) = Small furthest f
 SmallReading (Literal l) = Unit {0}
-
-asking-small : (b : Bool) (f : Refusal) (rest : Reading) → Small f → (b ≡ true → SmallReading rest) → SmallReading (asking b f rest)
-asking-small true f rest h on = on refl
-asking-small false f rest h on = h
 
 cond-small : (b : Bool) (x y : Reading) → SmallReading x → SmallReading y → SmallReading (cond b x y)
 cond-small true x y h k = h
@@ -59,13 +58,14 @@ cond-small false x y h k = k
 ended-small : (s : List ℕ) (q n : ℕ) (negated : Bool) (role : Role) → q ≤ 65537 → SmallReading (endedName s q n negated role)
 unfolding endedName
 ended-small s q n negated role h =
-    asking-small (leb n 24) _ _ (omega arith, omega arith, omega arith)
-    (λ e. asking-small (mayFollow role (byteAt s (q + n))) _ _ (omega arith, omega (arith, leb-true n 24 e), omega arith) (λ e′. tt))
+    demanding-holds SmallReading NotRead (leb n 24) _ _ (omega arith, omega arith, omega arith)
+    (λ e. demanding-holds SmallReading NotRead (mayFollow role (byteAt s (q + n))) _ _ (omega arith, omega (arith, leb-true n 24 e), omega arith) (λ e′. tt))
 
 name-small : (s : List ℕ) (q : ℕ) (negated : Bool) (role : Role) → q ≤ 65537 → SmallReading (nameAt s q negated role)
 unfolding nameAt
 name-small s q negated role h =
-    asking-small (startsName (byteAt s q)) _ _ (omega arith, omega arith, omega arith) (λ e. ended-small s q (nameRun (drop q s)) negated role h)
+    demanding-holds SmallReading NotRead (startsName (byteAt s q)) _ _
+    (omega arith, omega arith, omega arith) (λ e. ended-small s q (nameRun (drop q s)) negated role h)
 
 literal-small : (s : List ℕ) (p : ℕ) (role : Role) → p ≤ 65536 → SmallReading (literalAt s p role)
 unfolding literalAt
@@ -81,28 +81,29 @@ after-small s p h =
 reading-small : (s : List ℕ) (p : ℕ) → SmallReading (readingAt s p)
 unfolding readingAt
 reading-small s p =
-    asking-small (leb (length s) 65536) _ _ (omega arith, omega arith, omega arith)
+    demanding-holds SmallReading NotRead (leb (length s) 65536) _ _ (omega arith, omega arith, omega arith)
     (λ e. let short = leb-true (length s) 65536 e in
-    asking-small (leb p (length s)) _ _ (omega arith, omega arith, omega arith)
+    demanding-holds SmallReading NotRead (leb p (length s)) _ _ (omega arith, omega arith, omega arith)
     (λ e′. after-small s p (omega (arith, leb-true p (length s) e′))))
 
 -- the refusals of a sheet's literals
 abbrev SmallOutcome : Outcome → Type 0
 SmallOutcome (accepted x) = Unit {0}
-SmallOutcome (refused f) = Small f
+SmallOutcome (refused f) = Small furthest f
 
-fault-small : (names : ℕ) (repeated : Bool) (body words p q : ℕ) → p ≤ furthest → q ≤ furthest → Within furthest (faultWith names repeated body words p q)
+fault-small : (names : ℕ) (repeated : Bool) (body words p q : ℕ) → p ≤ furthest → q ≤ furthest → PlacesTo furthest (faultWith names repeated body words p q)
 unfolding faultWith
 fault-small names repeated body words p q h k =
-    asking-within furthest (leb names 512) _ _ (omega arith, k, omega arith)
-    (asking-within furthest (not repeated) _ _ (omega arith, h, omega arith)
-    (asking-within furthest (leb body 64) _ _ (omega arith, h, omega arith) (asking-within furthest (leb words 8192) _ _ (omega arith, h, omega arith) tt)))
+    asking-to furthest (leb names 512) _ _ (omega arith, k, omega arith)
+    (asking-to furthest (not repeated) _ _ (omega arith, h, omega arith)
+    (asking-to furthest (leb body 64) _ _ (omega arith, h, omega arith) (asking-to furthest (leb words 8192) _ _ (omega arith, h, omega arith) tt)))
 
-literal-fault-small : (s : List ℕ) (p : ℕ) (sofar : Sofar) (l : SheetLiteral) → p ≤ furthest → l .start ≤ furthest → Within furthest (literalFault s p sofar l)
+literal-fault-small : (s : List ℕ) (p : ℕ) (sofar : Sofar) (l : SheetLiteral)
+    → p ≤ furthest → l .start ≤ furthest → PlacesTo furthest (literalFault s p sofar l)
 unfolding literalFault
 literal-fault-small s p sofar l h k = fault-small _ _ _ _ p (l .start) h k
 
-unless-small : (c : Checked) (o : Outcome) → Within furthest c → SmallOutcome o → SmallOutcome (unless c o)
+unless-small : (c : Checked) (o : Outcome) → PlacesTo furthest c → SmallOutcome o → SmallOutcome (unless c o)
 unless-small Accepted o h k = k
 unless-small (Faulty f) o h k = h
 
@@ -122,9 +123,8 @@ unfolding sheetFrom
 from-small zero s p sofar = tt
 from-small (suc n) s p sofar = step-small s n p sofar (λ q x. from-small n s q x) (readingAt s p) refl
 
-demanding-small : (b : Bool) (f : Refusal) (o : Outcome) → Small f → SmallOutcome o → SmallOutcome (demanding b f o)
-demanding-small true f o h k = k
-demanding-small false f o h k = h
+demanding-small : (b : Bool) (f : Refusal) (o : Outcome) → Small furthest f → SmallOutcome o → SmallOutcome (demanding refused b f o)
+demanding-small b f o h k = demanding-holds SmallOutcome refused b f o h (λ e. k)
 
 outcome-small : (s : List ℕ) (wordRoom nameRoom : ℕ) → SmallOutcome (sheetOutcome s wordRoom nameRoom)
 unfolding sheetOutcome
@@ -143,7 +143,8 @@ lines-small heads a [] = omega arith
 lines-small heads a (e ∷ es) = omega (arith, line-small (hasLine heads a) e, lines-small heads (suc a) es)
 
 -- every value sheet's length is below the low half's end
-value-sheet-is-short : (s : List ℕ) (wordRoom nameRoom : ℕ) (x : Sofar) (I : Interpretation) → sheetOutcome s wordRoom nameRoom ≡ accepted x → length (sheetOf s x I) < 4294967296
+value-sheet-is-short : (s : List ℕ) (wordRoom nameRoom : ℕ) (x : Sofar) (I : Interpretation)
+    → sheetOutcome s wordRoom nameRoom ≡ accepted x → length (sheetOf s x I) < 4294967296
 value-sheet-is-short s wordRoom nameRoom x I e =
     let few = sheet-within s wordRoom nameRoom x e .at-most-512 in
     omega (arith, few, lines-length s (isHead (x .rules)) (λ a. code (value I (positive a))) 0 (x .names), lines-small (isHead (x .rules)) 0 (x .names))
@@ -152,7 +153,7 @@ value-sheet-is-short s wordRoom nameRoom x I e =
 packs : (s : List ℕ) (wordRoom nameRoom : ℕ) (text : List ℕ) {r : SheetAnswer} {ws ns text′ : List ℕ} → SheetAllows s wordRoom nameRoom text r ws ns text′
     → (g : Refusal) → r ≡ SheetAnswer.Refused g → Packable g × (1 ≤ g .number)
 packs s wordRoom nameRoom text (SheetAllows.refused {f} e) g same =
-    let small : Small f = subst SmallOutcome e (outcome-small s wordRoom nameRoom) in
+    let small : Small furthest f = subst SmallOutcome e (outcome-small s wordRoom nameRoom) in
     let is : f ≡ g = cc in
     subst (λ (x : Refusal). Packable x × (1 ≤ x .number)) is (record { number-small = omega arith; place-small = omega arith }, small .2)
 packs s wordRoom nameRoom text (SheetAllows.never-settles {x} e A m n) g same = absurd (n (sheet-settles s wordRoom nameRoom x e A m))
@@ -162,11 +163,13 @@ packs s wordRoom nameRoom text (SheetAllows.does-not-fit {x} {I} e i h) g same =
     subst (λ (y : Refusal). Packable y × (1 ≤ y .number)) is (record { number-small = omega arith; place-small = short }, omega arith)
 packs s wordRoom nameRoom text (SheetAllows.accepted {x} {I} e i h) g same = absurd (let z : _≡_ {A = ℕ} 0 1 = cc in omega arith)
 
-pub has-room : (s : List ℕ) (wordRoom nameRoom : ℕ) (text : List ℕ) {r : SheetAnswer} {ws ns text′ : List ℕ} → SheetAllows s wordRoom nameRoom text r ws ns text′ → HasRoom r
+pub has-room : (s : List ℕ) (wordRoom nameRoom : ℕ) (text : List ℕ) {r : SheetAnswer} {ws ns text′ : List ℕ}
+    → SheetAllows s wordRoom nameRoom text r ws ns text′ → HasRoom r
 has-room s wordRoom nameRoom text o g same = packs s wordRoom nameRoom text o g same .0
 
 -- the model that the promise names is the smallest for orders of any kind
-printed : (s : List ℕ) (wordRoom nameRoom : ℕ) (x : Sofar) (I : Interpretation) → sheetOutcome s wordRoom nameRoom ≡ accepted x → Smallest (x .rules) I → SmallestWellSupported (x .rules) I
+printed : (s : List ℕ) (wordRoom nameRoom : ℕ) (x : Sofar) (I : Interpretation)
+    → sheetOutcome s wordRoom nameRoom ≡ accepted x → Smallest (x .rules) I → SmallestWellSupported (x .rules) I
 printed s wordRoom nameRoom x I e i = smallest-by-test (x .rules) (sheet-one-rule s wordRoom nameRoom x e) I .0 i
 
 -- an answer tells its cause: the accepted sheet whose value sheet has that length and fits, or the fault that the written order finds, 15 last
@@ -181,8 +184,15 @@ pub answer-tells : (s words names text : List ℕ) {a : ℕ} {ws ns text′ : Li
 answer-tells s words names text (HostSheet.answered (SheetAllows.refused {f} e)) =
     let p = packs s (length words / 2) (length names / 4) text (SheetAllows.refused e) f refl in
     inr (f, inl e, refl, p .1, p .0 .place-small)
-answer-tells s words names text (HostSheet.answered (SheetAllows.never-settles {x} e A m n)) = absurd (n (sheet-settles s (length words / 2) (length names / 4) x e A m))
+answer-tells s words names text (HostSheet.answered (SheetAllows.never-settles {x} e A m n)) =
+    absurd (n (sheet-settles s (length words / 2) (length names / 4) x e A m))
 answer-tells s words names text (HostSheet.answered (SheetAllows.does-not-fit {x} {I} e i h)) =
-    inr (text-room-too-small (length (sheetOf s x I)), inr (x, I, e, printed s (length words / 2) (length names / 4) x I e i, h, refl), refl, omega arith, value-sheet-is-short s (length words / 2) (length names / 4) x I e)
+    inr (
+      text-room-too-small (length (sheetOf s x I)),
+      inr (x, I, e, printed s (length words / 2) (length names / 4) x I e i, h, refl),
+      refl,
+      omega arith,
+      value-sheet-is-short s (length words / 2) (length names / 4) x I e,
+    )
 answer-tells s words names text (HostSheet.answered (SheetAllows.accepted {x} {I} e i h)) =
     inl (x, I, e, printed s (length words / 2) (length names / 4) x I e i, h, refl, value-sheet-is-short s (length words / 2) (length names / 4) x I e)

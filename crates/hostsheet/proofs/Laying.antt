@@ -6,7 +6,8 @@ use native.Mathlib.Numerals.{add-one}
 use native.Mathlib.Omega.{arith}
 use lib.ListN.{length, getD, drop, take, set, length-set}
 use lib.Seq.{drop-cons, set-at, append-snoc, take-suc, length-take-le, take-all}
-use Rattle.hostsheet.specs.SheetBytes.{wordBytes, nameBytes, sized, wordsOver, namesOver}
+use Rattle.hostsheet.specs.SheetBytes.{wordBytes, nameBytes, wordsOver, namesOver}
+use Rattle.hostsheet.specs.Rooms.{sized}
 
 pub length-sized : (n : ℕ) (row : List ℕ) → length (sized n row) ≡ n
 unfolding sized
@@ -123,8 +124,10 @@ module _ (ns old now : List ℕ) (i e : ℕ) (h : i < length old / 4) (ee : e �
       let three : 4 * i + 2 + 1 ≡ 4 * i + 3 = omega arith in
       let next : 4 * i + 3 + 1 ≡ 4 * (i + 1) = omega arith in
       let first = lays-byte row old fits now (4 * i) (e % 256) (omega arith) (ap (λ (z : ℕ). z % 256) here ∙ sym (at .0)) q in
-      let second = lays-byte row old fits _ (4 * i + 1) (e / 256 % 256) (omega arith) (ap (λ (z : ℕ). z / 256 % 256) here ∙ sym (at .1)) first ∙ ap (laid row old) two in
-      let third = lays-byte row old fits _ (4 * i + 2) (e / 65536 % 256) (omega arith) (ap (λ (z : ℕ). z / 65536 % 256) here ∙ sym (at .2)) second ∙ ap (laid row old) three in
+      let second = lays-byte row old fits _ (4 * i + 1) (e / 256 % 256) (omega arith) (ap (λ (z : ℕ). z / 256 % 256) here ∙ sym (at .1)) first
+      ∙ ap (laid row old) two in
+      let third = lays-byte row old fits _ (4 * i + 2) (e / 65536 % 256) (omega arith) (ap (λ (z : ℕ). z / 65536 % 256) here ∙ sym (at .2)) second
+      ∙ ap (laid row old) three in
       lays-byte row old fits _ (4 * i + 3) (e / 16777216) (omega arith) (ap (λ (z : ℕ). z / 16777216) here ∙ sym (at .3)) third ∙ ap (laid row old) next
 
 pub laid-names : (ns old now : List ℕ) (i : ℕ) → i ≤ length old / 4 → length old / 4 ≤ i → now ≡ laid (nameBytes (sized (length old / 4) ns)) old (4 * i)

@@ -1,5 +1,5 @@
 -- A sheet read into rooms that are just large enough, and what that is in longer ones. Assumes nothing.
-use mathlib.Core.Bool.{Bool, true, false, cond, _&&_, true≢false}
+use mathlib.Core.Bool.{Bool, true, false, cond, _&&_}
 use mathlib.Core.List.{List, [], _∷_, _++_}
 use mathlib.Core.Path.{_≡_, refl, sym, _∙_, subst₂}
 use Prim.Native.Nat.{ℕ, zero, suc, _+_, _-_, _≤_}
@@ -9,15 +9,16 @@ use lib.Dec.{leb}
 use lib.ListN.{length, getD, drop, take, replicate, length-append, length-replicate, List·getD-eq-default}
 use lib.Seq.{ext-getD, getD-drop, length-take-le, length-front}
 use borrow.Author.Tests.{leb-true, le-leb}
-use Rattle.refusal.specs.declared.Refusal.{Refusal}
+use Rattle.sets.proofs.Tests.{and-both}
 use Rattle.words.specs.Layout.{wordsOf}
-use Rattle.sheetwords.specs.Sheets.{Sofar, Outcome, accepted, demanding, sheetOutcome}
-use Rattle.sheetwords.specs.Buffers.{padded}
-use Rattle.sheetwords.proofs.Turns.{accepted-is-not-refused}
+use Rattle.literals.specs.Literals.{Sofar}
+use Rattle.sheetwords.specs.Sheets.{accepted, sheetOutcome}
+use Rattle.sheetwords.proofs.Laws.{demanding-accepted}
+use Rattle.buffers.specs.Padded.{padded}
 use Rattle.sheetwords.proofs.Laws.{sheet-within}
 use Rattle.sheets.specs.declared.SheetAnswer.{SheetAnswer}
 use Rattle.sheets.specs.SheetEntry.{SheetAllows}
-use Rattle.hostsheet.specs.SheetBytes.{sized, roomFor}
+use Rattle.hostsheet.specs.Rooms.{sized, roomFor}
 use Rattle.hostsheet.proofs.Laying.{length-sized, sized-at}
 
 -- zeros after a row change none of its entries
@@ -70,21 +71,12 @@ unfolding sheetOutcome
 same-outcome s w n = rw (large-enough 8192 w, large-enough 512 n) refl
 
 -- an accepted sheet has had room
-both : (a b : Bool) → a && b ≡ true → (a ≡ true) × (b ≡ true)
-both true true e = (refl, refl)
-both true false e = absurd (true≢false (sym e))
-both false b e = absurd (true≢false (sym e))
-
-demanding-accepted : (b : Bool) (r : Refusal) (o : Outcome) (x : Sofar) → demanding b r o ≡ accepted x → (b ≡ true) × (o ≡ accepted x)
-demanding-accepted true r o x e = (refl, e)
-demanding-accepted false r o x e = absurd (accepted-is-not-refused x r (sym e))
-
 had-room : (s : List ℕ) (w n : ℕ) (x : Sofar) → sheetOutcome s w n ≡ accepted x → (8192 ≤ w) × (512 ≤ n)
 unfolding sheetOutcome
 had-room s w n x e =
     let first = demanding-accepted (leb (length s) 65536) _ _ x e in
     let second = demanding-accepted (leb 8192 w && leb 512 n) _ _ x (first .1) in
-    let large = both (leb 8192 w) (leb 512 n) (second .0) in
+    let large = and-both (leb 8192 w) (leb 512 n) (second .0) in
     (leb-true 8192 w (large .0), leb-true 512 n (large .1))
 
 module _ (s : List ℕ) (w n : ℕ) (text : List ℕ) (size size′ : ℕ) where

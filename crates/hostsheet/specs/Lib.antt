@@ -1,2 +1,2 @@
--- What a host lends to the sheet entry and gets back: bytes, and one 64-bit answer.
 pub mod SheetBytes
+pub mod Rooms

@@ -1,15 +1,11 @@
--- Document 01, "What is built": the host's sheet entry, over bytes.
-use mathlib.Core.Bool.{cond}
-use mathlib.Core.Path.{_≡_}
+-- Believed: the host's sheet entry, over bytes.
 use mathlib.Core.List.{List, [], _∷_, _++_}
-use Prim.Native.Nat.{ℕ, zero, suc, _*_, _/_, _%_}
-use lib.Dec.{leb}
+use Prim.Native.Nat.{ℕ, _*_, _/_, _%_}
 use lib.ListN.{length, drop}
-use Rattle.refusal.specs.declared.Refusal.{Refusal}
 use Rattle.sheets.specs.declared.SheetAnswer.{SheetAnswer}
 use Rattle.sheets.specs.declared.SheetAnswer.the-variants.{Accepted, Refused}
 use Rattle.sheets.specs.SheetEntry.{SheetAllows}
-use Rattle.host.specs.Evaluation.{packed, Packable}
+use Rattle.host.specs.Evaluation.{packed}
 
 -- a word goes as two bytes, low byte first
 unfoldable pub wordBytes : List ℕ → List ℕ
@@ -21,16 +17,6 @@ unfoldable pub nameBytes : List ℕ → List ℕ
 nameBytes [] = []
 nameBytes (e ∷ es) = (e % 256) ∷ (e / 256 % 256) ∷ (e / 65536 % 256) ∷ (e / 16777216) ∷ nameBytes es
 
--- so many entries: those of a row, and zeros past its end
-unfoldable pub sized : ℕ → List ℕ → List ℕ
-sized zero row = []
-sized (suc n) [] = 0 ∷ sized n []
-sized (suc n) (e ∷ row) = e ∷ sized n row
-
--- the entries that a sheet is read into: the whole entries lent, and no more than it can need
-abbrev pub roomFor : ℕ → ℕ → ℕ
-roomFor limit whole = cond (leb limit whole) limit whole
-
 -- the whole entries of the lent bytes are written, the surplus bytes after them are untouched
 abbrev pub wordsOver : List ℕ → List ℕ → List ℕ
 wordsOver ws bytes = wordBytes ws ++ drop (2 * (length bytes / 2)) bytes
@@ -39,15 +25,11 @@ abbrev pub namesOver : List ℕ → List ℕ → List ℕ
 namesOver ns bytes = nameBytes ns ++ drop (4 * (length bytes / 4)) bytes
 
 -- the value sheet's length, or 2^32 times the number, plus the place
-abbrev pub answerOf : SheetAnswer → ℕ
-answerOf (Accepted c) = c .bytes
-answerOf (Refused f) = packed f
-
--- a refusal has room in the answer
-abbrev pub HasRoom : SheetAnswer → Type 0
-HasRoom r = (f : Refusal) → r ≡ Refused f → Packable f
+abbrev pub packedAnswer : SheetAnswer → ℕ
+packedAnswer (Accepted c) = c .bytes
+packedAnswer (Refused f) = packed f
 
 -- the answer, and every byte of the three buffers afterwards
 pub data HostSheet (s words names text : List ℕ) : ℕ → List ℕ → List ℕ → List ℕ → Type 0 where
   answered : {r : SheetAnswer} {ws ns text′ : List ℕ} → SheetAllows s (length words / 2) (length names / 4) text r ws ns text′
-      → HostSheet s words names text (answerOf r) (wordsOver ws words) (namesOver ns names) text′
+      → HostSheet s words names text (packedAnswer r) (wordsOver ws words) (namesOver ns names) text′

@@ -2,7 +2,8 @@ use sheets::SheetAnswer;
 ghost use mathlib.Core.Path.{_≡_};
 ghost use Prim.Native.Nat.{_+_, _/_, _%_, _<_, _≤_};
 ghost use lib.ListN.{length, set};
-ghost use Rattle.hostsheet.specs.SheetBytes.{sized, roomFor, wordsOver, namesOver, answerOf, HasRoom, HostSheet};
+ghost use Rattle.hostsheet.specs.Rooms.{sized, roomFor, HasRoom};
+ghost use Rattle.hostsheet.specs.SheetBytes.{wordsOver, namesOver, packedAnswer, HostSheet};
 
 fn low_byte(x: usize) -> u8
     ensures { λ r. ⌜ r ≡ x % 256 ⌝ }
@@ -65,7 +66,7 @@ fn room_for(limit: usize, whole: usize) -> usize
 
 fn answer(r: SheetAnswer) -> u64
     requires { ⌜ HasRoom r ⌝ }
-    ensures { λ a. ⌜ a ≡ answerOf r ⌝ }
+    ensures { λ a. ⌜ a ≡ packedAnswer r ⌝ }
 {
     match r {
         SheetAnswer::Accepted(c) => c.bytes as u64,
@@ -77,10 +78,10 @@ fn answer(r: SheetAnswer) -> u64
 pub fn sheet_bytes(sheet: &[u8], words: &mut [u8], names: &mut [u8], text: &mut [u8]) -> u64
     ensures { λ a. ⌜ HostSheet (now (sheet .entry)) (now (words .entry)) (now (names .entry)) (now (text .entry)) a (now (words .exit)) (now (names .exit)) (now (text .exit)) ⌝ }
 {
-    let w = room_for(8192, words.len() / 2);
-    let n = room_for(512, names.len() / 4);
-    let mut ws = [0u16; 8192];
-    let mut ns = [0u32; 512];
+    let w = room_for(limits::MOST_WORDS, words.len() / 2);
+    let n = room_for(limits::MOST_ATOMS, names.len() / 4);
+    let mut ws = [0u16; limits::MOST_WORDS];
+    let mut ns = [0u32; limits::MOST_ATOMS];
     let r = sheets::read_sheet(sheet, &mut ws[..w], &mut ns[..n], text);
     put_words(&ws, words);
     put_names(&ns, names);

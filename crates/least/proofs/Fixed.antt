@@ -1,25 +1,24 @@
 -- Passes stay inside the least set, and a pass that adds nothing has reached it. Assumes nothing.
 use mathlib.Core.Bool.{Bool, true, false, not, cond, _&&_, _||_, true≢false, false≢true}
 use mathlib.Core.List.{List, [], _∷_, List·Memᴰ·head, List·Memᴰ·tail, List·Memᴰ·cases-cons, List·Memᴰ·not-nil}
-use mathlib.Core.Logic.{_⊎_, inl, inr, ⊎-elim, _↔_}
+use mathlib.Core.Logic.{inl, inr, ⊎-elim}
 use mathlib.Core.Path.{_≡_, refl, sym, ap, _∙_, subst, subst⁻¹}
-use Prim.Native.Nat.{ℕ, zero, suc, _+_, _-_, _≤_, _<_, _/_}
+use Prim.Native.Nat.{ℕ, _+_, _-_, _<_}
 use native.Mathlib.Omega.{arith}
 use lib.Dec.{T, T-not}
 use lib.ListN.{length}
-use Rattle.paper.specs.Rules.{Rule, atom, _∈_}
-use Rattle.paper.specs.Marking.{Marks, Unmarked, Least, from-base, by-fact, by-group, mark, count}
-use Rattle.paper.proofs.Closure.{fires, Fires, fires→, →fires}
-use Rattle.paper.proofs.Leasts.{least-contained, mark-⊇, mark-cases, marked-itself}
-use Rattle.paper.proofs.Counting.{count≤}
-use Rattle.paper.proofs.Tests.{either, and-intro, and-left, and-right, T→true, true→T, not→false}
+use Rattle.paper.specs.Rules.{Rule, atom}
+use Rattle.sets.specs.Sets.{_∈_, _with_, count}
+use Rattle.paper.specs.Marking.{Marks, Unmarked, Least, from-base, by-fact, by-group}
+use Rattle.paper.specs.Fires.{fires}
+use Rattle.paper.proofs.Closure.{Fires, fires→, →fires}
+use Rattle.paper.proofs.Leasts.{least-contained}
+use Rattle.sets.proofs.Besides.{with-⊇, with-cases, with-itself}
+use Rattle.sets.proofs.Counting.{count≤}
+use Rattle.sets.proofs.Tests.{either, and-intro, and-left, and-right, true→T}
 use Rattle.bits.specs.Sets.{member}
 use Rattle.words.specs.Layout.{rulesOf}
 use Rattle.least.specs.Passing.{skips, adds, stepped, passed, Passed, ClosedOver}
-
-not-or-left : (a b : Bool) → T (not (a || b)) → T (not a)
-not-or-left true b h = h
-not-or-left false b h = tt
 
 not-or-right : (a b : Bool) → T (not (a || b)) → T (not b)
 not-or-right true b h = absurd h
@@ -34,8 +33,8 @@ module _ (A : Marks) where
   unfolding stepped
   step-⊇ S ρ l h = go (adds A S ρ)
     where
-      go : (b : Bool) → T (cond b (mark S (ρ .head)) S l)
-      go true = mark-⊇ S (ρ .head) l h
+      go : (b : Bool) → T (cond b (S with ρ .head) S l)
+      go true = with-⊇ S (ρ .head) l h
       go false = h
 
   pub passed-⊇ : (R : List Rule) (S : ℕ → Bool) (l : ℕ) → T (S l) → T (passed A S R l)
@@ -56,9 +55,9 @@ module _ (A : Marks) where
           (λ (q : (β : List ℕ) × (β ∈ ρ .groups) × ((ι : ℕ) → ι ∈ β → T (S ι))). by-group ρ (q .0) m refl u (q .1) (λ ι i. s ι (q .2 ι i)))
           (fires→ S ρ (and-right (not (skips A S (ρ .head))) (fires S ρ) t))
 
-      go : (b : Bool) → adds A S ρ ≡ b → T (cond b (mark S (ρ .head)) S l) → Least R base (λ x. Unmarked A (atom x)) l
+      go : (b : Bool) → adds A S ρ ≡ b → T (cond b (S with ρ .head) S l) → Least R base (λ x. Unmarked A (atom x)) l
       go true e k =
-          ⊎-elim (λ (p : l ≡ ρ .head). rw p (fired (true→T (adds A S ρ) e))) (λ (y : T (S l)). s l y) (mark-cases S (ρ .head) l k)
+          ⊎-elim (λ (p : l ≡ ρ .head). rw p (fired (true→T (adds A S ρ) e))) (λ (y : T (S l)). s l y) (with-cases S (ρ .head) l k)
       go false e k = s l k
 
   passed-least : (R : List Rule) (base : ℕ → Type 0) (Q : List Rule) → ((ρ : Rule) → ρ ∈ Q → ρ ∈ R) → (S : ℕ → Bool)
@@ -78,10 +77,10 @@ module _ (A : Marks) where
       new true b c p = absurd (false≢true p)
       new false b c p = tt
 
-      go : (b : Bool) → adds A S σ ≡ b → passed A (cond b (mark S (σ .head)) S) R ≡ S → (passed A S R ≡ S → (ρ : Rule) → ρ ∈ R → T (not (adds A S ρ)))
+      go : (b : Bool) → adds A S σ ≡ b → passed A (cond b (S with σ .head) S) R ≡ S → (passed A S R ≡ S → (ρ : Rule) → ρ ∈ R → T (not (adds A S ρ)))
           → T (not (adds A S ρ))
       go true p f below =
-          let h : T (S (σ .head)) = subst (λ (U : ℕ → Bool). T (U (σ .head))) f (passed-⊇ R (mark S (σ .head)) (σ .head) (marked-itself S (σ .head))) in
+          let h : T (S (σ .head)) = subst (λ (U : ℕ → Bool). T (U (σ .head))) f (passed-⊇ R (S with σ .head) (σ .head) (with-itself S (σ .head))) in
           absurd (T-not (S (σ .head)) (new (S (σ .head)) (A (atom (σ .head))) (fires S σ) p) h)
       go false p f below =
           ⊎-elim (λ (q : ρ ≡ σ). rw q (rw p tt)) (λ (k : ρ ∈ R). below f ρ k) (List·Memᴰ·cases-cons m)
@@ -90,7 +89,8 @@ module _ (A : Marks) where
   still-closed R S e ρ m u f =
       ⊎-elim (λ (h : T (S (ρ .head))). h)
       (λ (n : T (not (S (ρ .head)))).
-      absurd (T-not (adds A S ρ) (still R S e ρ m) (and-intro (not (skips A S (ρ .head))) (fires S ρ) (not-or (S (ρ .head)) (A (atom (ρ .head))) n u) (→fires S ρ f))))
+      absurd (T-not (adds A S ρ) (still R S e ρ m)
+      (and-intro (not (skips A S (ρ .head))) (fires S ρ) (not-or (S (ρ .head)) (A (atom (ρ .head))) n u) (→fires S ρ f))))
       (either (S (ρ .head)))
 
   -- where the passes have come: inside the least set, and at rest once nothing was added
@@ -109,7 +109,8 @@ module _ (A : Marks) where
       record {
         length-same = p .length-same ∙ c .length-same;
         more = λ l h. subst⁻¹ (λ (U : ℕ → Bool). T (U l)) (p .all) (passed-⊇ (rulesOf t) (member s₁) l (c .more l h));
-        inside = λ l h. passed-least (rulesOf t) (λ x. T (member s x)) (rulesOf t) (λ ρ m. m) (member s₁) (c .inside) l (subst (λ (U : ℕ → Bool). T (U l)) (p .all) h);
+        inside = λ l h.
+            passed-least (rulesOf t) (λ x. T (member s x)) (rulesOf t) (λ ρ m. m) (member s₁) (c .inside) l (subst (λ (U : ℕ → Bool). T (U l)) (p .all) h);
         at-rest = λ e. ap (λ (U : ℕ → Bool). passed A U (rulesOf t)) (p .unchanged e) ∙ sym (p .all);
       }
 
@@ -120,9 +121,11 @@ module _ (A : Marks) where
         least = λ l. (
           c .inside l,
           least-contained (λ x. T (member s′ x)) (c .more)
-              (λ x ρ m p u n. subst (λ (z : ℕ). T (member s′ z)) p (still-closed (rulesOf t) (member s′) (c .at-rest e) ρ m (subst⁻¹ (λ (z : ℕ). Unmarked A (atom z)) p u) (inl n)))
+              (λ x ρ m p u n. subst (λ (z : ℕ). T (member s′ z)) p
+              (still-closed (rulesOf t) (member s′) (c .at-rest e) ρ m (subst⁻¹ (λ (z : ℕ). Unmarked A (atom z)) p u) (inl n)))
               (λ x ρ β m p u g all.
-              subst (λ (z : ℕ). T (member s′ z)) p (still-closed (rulesOf t) (member s′) (c .at-rest e) ρ m (subst⁻¹ (λ (z : ℕ). Unmarked A (atom z)) p u) (inr (β, g, all)))),
+              subst (λ (z : ℕ). T (member s′ z)) p
+              (still-closed (rulesOf t) (member s′) (c .at-rest e) ρ m (subst⁻¹ (λ (z : ℕ). Unmarked A (atom z)) p u) (inr (β, g, all)))),
         );
       }
 

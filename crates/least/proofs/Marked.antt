@@ -1,18 +1,18 @@
 -- Held and Clean as closures: Held starts with the marked literals, Clean with nothing. Assumes nothing.
-use mathlib.Core.Bool.{Bool, true, false, not, cond, _&&_, _||_}
+use mathlib.Core.Bool.{Bool, true, false, not, _&&_, _||_}
 use mathlib.Core.List.{List}
-use mathlib.Core.Logic.{_⊎_, inl, inr, ⊎-elim, _↔_}
+use mathlib.Core.Logic.{⊎-elim, _↔_}
 use mathlib.Core.Path.{_≡_, refl, sym, ap, _∙_, subst, subst⁻¹}
-use Prim.Native.Nat.{ℕ, zero, suc, _+_, _*_, _/_, _≤_, _<_}
+use Prim.Native.Nat.{ℕ, _+_, _≤_, _<_}
 use native.Mathlib.Omega.{arith}
 use native.Mathlib.Decide.{ℕ-discrete}
 use lib.Dec.{T, ltb}
 use lib.ListN.{length, replicate}
 use borrow.Author.Tests.{lt-ltb, le-ltb}
-use Rattle.paper.specs.Rules.{Rule, atom, positive, negative, HeadsBelow, _∈_}
-use Rattle.paper.specs.Marking.{Marks, Marked, Unmarked, Least, from-base, by-fact, by-group, Held, Clean, IsHeld, IsClean, mark}
+use Rattle.paper.specs.Rules.{Rule, atom, positive, negative}
+use Rattle.paper.specs.Marking.{Marks, Marked, Unmarked, Least, from-base, by-fact, by-group, Held, IsHeld, IsClean}
 use Rattle.paper.proofs.Leasts.{least-mono, least-contained}
-use Rattle.paper.proofs.Tests.{either, or-left, or-right, or-cases, same-tests→≡}
+use Rattle.sets.proofs.Tests.{either, or-right, or-cases, same-tests→≡}
 use Rattle.bits.specs.Sets.{member, putIn}
 use Rattle.bits.proofs.Laws.{member-putIn-same, member-putIn-other, length-putIn, member-past, member-of-zeros}
 use Rattle.words.specs.Layout.{rulesOf}
@@ -49,7 +49,8 @@ or-true : (x : Bool) → true ≡ (x || true)
 or-true true = refl
 or-true false = refl
 
-pub marking-goes-on : (A : Marks) (s s₁ s₂ : List ℕ) (a : ℕ) → length s₁ ≡ 16 → a < 512 → Marking-below A s s₁ a → s₂ ≡ withPair s₁ a (A a) → Marking-below A s s₂ (a + 1)
+pub marking-goes-on : (A : Marks) (s s₁ s₂ : List ℕ) (a : ℕ) → length s₁ ≡ 16 → a < 512
+    → Marking-below A s s₁ a → s₂ ≡ withPair s₁ a (A a) → Marking-below A s s₂ (a + 1)
 marking-goes-on A s s₁ s₂ a len lt m e =
     record { length-same = ap length e ∙ length-pair s₁ a (A a) ∙ m .length-same; members = λ l. ap (λ (u : List ℕ). member u l) e ∙ pair l (A a) refl }
   where
@@ -97,11 +98,13 @@ held-as-closure R A base inside marked l = (
   least-contained (Held R A) inside (λ x ρ m e u n. by-fact ρ m e tt n) (λ x ρ β m e u g all. by-group ρ β m e tt g all),
   least-contained (Least R base (λ x. Unmarked A (atom x))) (λ x h. from-base (marked x h))
       (λ x ρ m e u n. ⊎-elim (λ (h : T (A (atom x))). from-base (marked x h)) (λ (k : T (not (A (atom x)))). by-fact ρ m e k n) (either (A (atom x))))
-      (λ x ρ β m e u g all. ⊎-elim (λ (h : T (A (atom x))). from-base (marked x h)) (λ (k : T (not (A (atom x)))). by-group ρ β m e k g all) (either (A (atom x)))),
+      (λ x ρ β m e u g all. ⊎-elim
+      (λ (h : T (A (atom x))). from-base (marked x h)) (λ (k : T (not (A (atom x)))). by-group ρ β m e k g all) (either (A (atom x)))),
 )
 
 -- from held literals and the marked ones, closed: held. Held may so be kept while marks are added
-pub closed-held : (A : Marks) (t s s₁ s₂ : List ℕ) → ((l : ℕ) → T (member s l) → Held (rulesOf t) A l) → WithMarked A s s₁ → ClosedOver A t s₁ s₂ → IsHeld (rulesOf t) A (member s₂)
+pub closed-held : (A : Marks) (t s s₁ s₂ : List ℕ) → ((l : ℕ) → T (member s l) → Held (rulesOf t) A l)
+    → WithMarked A s s₁ → ClosedOver A t s₁ s₂ → IsHeld (rulesOf t) A (member s₂)
 closed-held A t s s₁ s₂ inside w c l =
     let base : ((x : ℕ) → T (member s₁ x) → Held (rulesOf t) A x) =
     λ x h. ⊎-elim (λ (k : T (member s x)). inside x k) (λ (k : T (A (atom x))). from-base k) (or-cases (member s x) (A (atom x)) (subst T (w .members x) h))

@@ -6,13 +6,15 @@ use Prim.Native.Nat.{ℕ, suc, _*_, _/_, _≤_, _<_}
 use native.Mathlib.Omega.{arith}
 use lib.Dec.{T, eqb}
 use lib.ListN.{length, getD, drop}
-use Rattle.paper.specs.Rules.{Rule, _∈_}
-use Rattle.paper.specs.Marking.{Marks, mark, count}
-use Rattle.paper.proofs.Closure.{someWholly, noGroups, fires}
-use Rattle.paper.proofs.Counting.{count-mark}
+use Rattle.paper.specs.Rules.{Rule}
+use Rattle.sets.specs.Sets.{_∈_, _with_, count}
+use Rattle.paper.specs.Marking.{Marks}
+use Rattle.paper.specs.Fires.{someWholly, noGroups, fires}
+use Rattle.sets.proofs.Counting.{count-with}
 use Rattle.bits.specs.Sets.{member, putIn}
 use Rattle.bits.proofs.Laws.{member-putIn, length-putIn}
-use Rattle.words.specs.Layout.{WholeGroups, takeGroups, dropGroups, wordsOf, rulesOf, bodyAt, groupsIn, bodyFrom, ruleAt, afterRecord}
+use Rattle.words.specs.RecordAt.{WholeGroups, groupsIn, bodyFrom, ruleAt, afterRecord}
+use Rattle.words.specs.Layout.{takeGroups, dropGroups, wordsOf, rulesOf, bodyAt}
 use Rattle.words.proofs.Places.{RecordAt, record-at, some-record}
 use Rattle.words.proofs.Reading.{takeGroups-groupsWords, dropGroups-groupsWords, length-takeGroups, whole-groups, rulesOf-wordsOf}
 use Rattle.least.specs.Walk.{GroupsSkipped, BodyRead, FiresAt}
@@ -23,11 +25,13 @@ noGroups-is : (βs : List (List ℕ)) → noGroups βs ≡ eqb (length βs) 0
 noGroups-is [] = refl
 noGroups-is (β ∷ βs) = sym (lib.Dec.eqb·suc-zero (length βs))
 
-pub fires-there : (S : ℕ → Bool) (t : List ℕ) (at m : ℕ) (fact firing : Bool) (next : ℕ) → m ≡ groupsIn t at → WholeGroups (groupsIn t at) (bodyFrom t at) → fact ≡ eqb m 0
+pub fires-there : (S : ℕ → Bool) (t : List ℕ) (at m : ℕ) (fact firing : Bool) (next : ℕ)
+    → m ≡ groupsIn t at → WholeGroups (groupsIn t at) (bodyFrom t at) → fact ≡ eqb m 0
     → BodyRead S t (bodyAt at) m fact firing next → FiresAt S t at firing next
 fires-there S t at m fact firing next em w ef b =
     let groups : List (List ℕ) = takeGroups (groupsIn t at) (bodyFrom t at) in
-    let none : fact ≡ noGroups groups = ef ∙ ap (λ (n : ℕ). eqb n 0) (em ∙ sym (length-takeGroups (groupsIn t at) (bodyFrom t at) w)) ∙ sym (noGroups-is groups) in
+    let none : fact ≡ noGroups groups = ef
+    ∙ ap (λ (n : ℕ). eqb n 0) (em ∙ sym (length-takeGroups (groupsIn t at) (bodyFrom t at) w)) ∙ sym (noGroups-is groups) in
     record {
       fires-is = b .fires-is ∙ ap₂ (λ (x : Bool) (n : ℕ). x || someWholly S (takeGroups n (bodyFrom t at))) none em;
       after = b .after ∙ ap (λ (n : ℕ). dropGroups n (bodyFrom t at)) em;
@@ -92,15 +96,16 @@ moved-adding A t at s adding head next s′ len lt r d ea es =
     let h = here t at lt r in
     let b : head < 64 * length s = (let k = head-below t at h r in let e = d .head-is in omega arith) in
     let added : adds A (member s) (ruleAt t at) ≡ true = sym (d .adds-is) ∙ ea in
-    let m : member s′ ≡ mark (member s) head = ap member es ∙ member-putIn s head b in
+    let m : member s′ ≡ (member s with head) = ap member es ∙ member-putIn s head b in
     record {
       records = next-records t at next h r (d .inside) (d .after);
       length-same = ap length es ∙ length-putIn s head;
       pass-same = ap (λ (S : ℕ → Bool). passed A S (rulesOf (drop next t))) (m ∙ rw (added, d .head-is)) ∙ pass-there A (member s) t at next h (d .after);
       unchanged = λ e. absurd (mathlib.Core.Bool.true≢false e);
       grew = λ e.
-          let c : count 1024 (mark (member s) head) ≡ suc (count 1024 (member s)) = count-mark 1024 (member s) head (omega arith) (rw (d .head-is) (new-of (member s (getD t at 0)) (A (getD t at 0 / 2)) (fires (member s) (ruleAt t at)) added)) in
-          let c′ : count 1024 (member s′) ≡ count 1024 (mark (member s) head) = ap (count 1024) m in
+          let c : count 1024 (member s with head) ≡ suc (count 1024 (member s)) = count-with 1024 (member s) head
+          (omega arith) (rw (d .head-is) (new-of (member s (getD t at 0)) (A (getD t at 0 / 2)) (fires (member s) (ruleAt t at)) added)) in
+          let c′ : count 1024 (member s′) ≡ count 1024 (member s with head) = ap (count 1024) m in
           omega arith;
     }
 
@@ -130,7 +135,8 @@ skipped-there A S t at head skip next eh es e g =
       further = g .not-before;
     }
 
-pub decided-there : (A : Marks) (S : ℕ → Bool) (t : List ℕ) (at head : ℕ) (skip firing : Bool) (next : ℕ) → head ≡ getD t at 0 → skip ≡ skips A S head → skip ≡ false
+pub decided-there : (A : Marks) (S : ℕ → Bool) (t : List ℕ) (at head : ℕ) (skip firing : Bool) (next : ℕ)
+    → head ≡ getD t at 0 → skip ≡ skips A S head → skip ≡ false
     → FiresAt S t at firing next → Decided A S t at firing head next
 decided-there A S t at head skip firing next eh es e f =
     record {
@@ -148,7 +154,8 @@ pub moved-start : (A : Marks) (t s : List ℕ) → Records t 0 → Moved A t 0 s
 moved-start A t s r =
     record { records = r; length-same = refl; pass-same = refl; unchanged = λ e. refl; grew = λ e. absurd (mathlib.Core.Bool.false≢true e) }
 
-pub moved-on : (A : Marks) (t : List ℕ) (at next : ℕ) (s s₁ s₂ : List ℕ) (c c′ : Bool) {c″ : Bool} → Moved A t 0 s at c s₁ → Moved A t at s₁ next c′ s₂ → c″ ≡ (c || c′)
+pub moved-on : (A : Marks) (t : List ℕ) (at next : ℕ) (s s₁ s₂ : List ℕ) (c c′ : Bool) {c″ : Bool}
+    → Moved A t 0 s at c s₁ → Moved A t at s₁ next c′ s₂ → c″ ≡ (c || c′)
     → Moved A t 0 s next c″ s₂
 moved-on A t at next s s₁ s₂ c c′ {c″} m n e =
     record {

@@ -7,9 +7,10 @@ use native.Mathlib.Omega.{arith}
 use native.Mathlib.Numerals.{add-one}
 use lib.ListN.{length, getD, take, drop, length-drop}
 use lib.Seq.{drop-cons, drop-drop}
-use Rattle.words.specs.Layout.{WholeGroups, takeGroups, dropGroups, literalsAt}
+use Rattle.words.specs.RecordAt.{WholeGroups}
+use Rattle.words.specs.Layout.{takeGroups, dropGroups, literalsAt}
 use Rattle.words.proofs.Places.{word-at}
-use Rattle.paper.proofs.Closure.{wholly, someWholly}
+use Rattle.paper.specs.Fires.{wholly, someWholly}
 use Rattle.least.specs.Walk.{GroupsSkipped, BodyRead}
 
 -- the literal at i is looked at: the group holds if it is in the set and the rest holds
@@ -85,7 +86,8 @@ body-goes-on S t at (suc l) k fires fires′ h lt ek ef = go (drop at t) refl h
           after-same = rw (less, d, e) refl;
         }
 
-pub groups-end : (t : List ℕ) (first m at left : ℕ) → left ≤ 0 → (at ≤ length t) × (first ≤ at) × (WholeGroups left (drop at t)) × (dropGroups left (drop at t) ≡ dropGroups m (drop first t))
+pub groups-end : (t : List ℕ) (first m at left : ℕ) → left ≤ 0
+    → (at ≤ length t) × (first ≤ at) × (WholeGroups left (drop at t)) × (dropGroups left (drop at t) ≡ dropGroups m (drop first t))
     → GroupsSkipped t first m at
 unfolding dropGroups
 groups-end t first m at zero h inv = record { after = inv .3; inside = inv .0; not-before = inv .1 }

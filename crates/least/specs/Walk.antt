@@ -1,11 +1,12 @@
--- What one walk through the table's groups finds, said of the words.
+-- Stage: what one walk through the table's groups finds, said of the words.
 use mathlib.Core.List.{List}
 use mathlib.Core.Path.{_≡_}
 use mathlib.Core.Bool.{Bool, _||_}
 use Prim.Native.Nat.{ℕ, _≤_}
 use lib.ListN.{length, drop}
-use Rattle.words.specs.Layout.{takeGroups, dropGroups, bodyAt, ruleAt, afterRecord}
-use Rattle.paper.proofs.Closure.{someWholly, fires}
+use Rattle.words.specs.Layout.{takeGroups, dropGroups, bodyAt}
+use Rattle.words.specs.RecordAt.{ruleAt, afterRecord}
+use Rattle.paper.specs.Fires.{someWholly, fires}
 
 -- the m groups from place `at` on end at `next`
 pub record GroupsSkipped (t : List ℕ) (at m next : ℕ) : Type 0 where

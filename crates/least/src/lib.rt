@@ -1,13 +1,15 @@
 ghost use mathlib.Core.Path.{_≡_};
 ghost use mathlib.Core.Bool.{_||_};
 ghost use Prim.Native.Nat.{_+_, _/_, _≤_, _<_};
-ghost use lib.ListN.{length, getD, take, drop};
+ghost use lib.ListN.{length, take, drop};
+ghost use Rattle.limits.specs.Limits.{mostAtoms};
 ghost use Rattle.bits.specs.Sets.{member};
-ghost use Rattle.paper.proofs.Closure.{wholly, someWholly};
+ghost use Rattle.paper.specs.Fires.{wholly};
 ghost use lib.Dec.{eqb};
 ghost use Rattle.least.specs.Walk.{GroupsSkipped, BodyRead, FiresAt};
 ghost use Rattle.least.specs.Passing.{skips, Records, Moved, Passed, ClosedOver, WithMarked, withPair};
-ghost use Rattle.words.specs.Layout.{rulesOf, bodyAt, groupsIn, bodyFrom, WholeGroups};
+ghost use Rattle.words.specs.Layout.{rulesOf, bodyAt};
+ghost use Rattle.words.specs.RecordAt.{groupsIn, bodyFrom, WholeGroups};
 ghost use Rattle.paper.specs.Marking.{IsHeld, IsClean};
 
 // What a body says, and where the next record begins.
@@ -148,7 +150,7 @@ fn pass_record(table: &[u16], set: &mut [u64], marks: &[u64], at: usize) -> Step
     }
 }
 
-fn either(a: bool, b: bool) -> bool
+pub fn either(a: bool, b: bool) -> bool
     ensures { λ r. ⌜ r ≡ (a || b) ⌝ }
 {
     if a { true } else { b }
@@ -182,7 +184,7 @@ pub fn close(table: &[u16], set: &mut [u64], marks: &[u64])
 }
 
 fn put_pair(set: &mut [u64], marks: &[u64], a: usize)
-    requires { ⌜ a < 512 ⌝ }
+    requires { ⌜ a < mostAtoms ⌝ }
     ensures { λ _. ⌜ now (set .exit) ≡ withPair (now (set .entry)) a (member (now (marks .entry)) a) ⌝ }
 {
     if bits::has(marks, a) {
@@ -197,7 +199,7 @@ pub fn put_marked(set: &mut [u64], marks: &[u64])
     ensures { λ _. ⌜ WithMarked (member (now (marks .entry))) (now (set .entry)) (now (set .exit)) ⌝ }
 {
     let mut a: usize = 0;
-    while a < 512 {
+    while a < limits::MOST_ATOMS {
         put_pair(set, marks, a);
         a += 1;
     }

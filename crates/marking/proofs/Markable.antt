@@ -1,15 +1,15 @@
 -- The test by held and clean literals is document 01's "can be marked". Assumes nothing.
-use mathlib.Core.Bool.{Bool, true, false, not, _&&_, _||_}
+use mathlib.Core.Bool.{Bool, not, _&&_, _||_}
 use mathlib.Core.List.{List}
 use mathlib.Core.Logic.{_⊎_, inl, inr, ⊎-elim, _↔_}
-use mathlib.Core.Path.{_≡_, refl, sym, ap, _∙_}
-use Prim.Native.Nat.{ℕ, zero, suc, _≤_, _<_}
+use mathlib.Core.Path.{_≡_, sym, _∙_}
+use Prim.Native.Nat.{ℕ, zero, suc, _<_}
 use native.Mathlib.Omega.{arith}
 use native.Mathlib.Decide.{ℕ-discrete}
 use lib.Dec.{T, T-not, not-T}
 use Rattle.paper.specs.Rules.{Rule, HeadsBelow, positive, negative}
-use Rattle.paper.specs.Marking.{Marks, Held, Clean, HeldNotClean, CanBeMarked, Settled, IsHeld, IsClean}
-use Rattle.paper.proofs.Tests.{and-intro, and-left, and-right, or-left, or-right, or-cases, true→T, false→not}
+use Rattle.paper.specs.Marking.{Marks, Held, HeldNotClean, CanBeMarked, IsHeld, IsClean}
+use Rattle.sets.proofs.Tests.{and-intro, and-left, and-right, or-left, or-right, or-cases, true→T, false→not}
 use Rattle.paper.proofs.Order.{can-be-marked-below}
 use Rattle.marking.specs.Markable.{heldNotClean, conflicts, markable, markableBelow, GoesOn}
 
@@ -27,9 +27,11 @@ module _ (R : List Rule) (A : Marks) (H C : ℕ → Bool) (h : IsHeld R A H) (c 
         record {
           unmarked = and-left (not (A a)) (conflicts H C a) t;
           because =
-              ⊎-elim (λ (x : T (H (positive a) && H (negative a))). inl (h (positive a) .0 (and-left (H (positive a)) (H (negative a)) x), h (negative a) .0 (and-right (H (positive a)) (H (negative a)) x)))
+              ⊎-elim (λ (x : T (H (positive a) && H (negative a))). inl
+              (h (positive a) .0 (and-left (H (positive a)) (H (negative a)) x), h (negative a) .0 (and-right (H (positive a)) (H (negative a)) x)))
               (λ (x : T (heldNotClean H C (positive a) || heldNotClean H C (negative a))).
-              inr (⊎-elim (λ (y : T (heldNotClean H C (positive a))). inl (heldNotClean→ (positive a) y)) (λ (y : T (heldNotClean H C (negative a))). inr (heldNotClean→ (negative a) y))
+              inr (⊎-elim (λ (y : T (heldNotClean H C (positive a))). inl (heldNotClean→ (positive a) y))
+              (λ (y : T (heldNotClean H C (negative a))). inr (heldNotClean→ (negative a) y))
               (or-cases (heldNotClean H C (positive a)) (heldNotClean H C (negative a)) x)))
               (or-cases (H (positive a) && H (negative a)) (heldNotClean H C (positive a) || heldNotClean H C (negative a)) b);
         }),
@@ -49,7 +51,8 @@ module _ (R : List Rule) (A : Marks) (H C : ℕ → Bool) (h : IsHeld R A H) (c 
   some→ : (n : ℕ) → T (markableBelow A H C n) → (a : ℕ) × T (markable A H C a)
   unfolding markableBelow
   some→ zero t = absurd t
-  some→ (suc n) t = ⊎-elim (λ (x : T (markable A H C n)). (n, x)) (λ (x : T (markableBelow A H C n)). some→ n x) (or-cases (markable A H C n) (markableBelow A H C n) t)
+  some→ (suc n) t =
+      ⊎-elim (λ (x : T (markable A H C n)). (n, x)) (λ (x : T (markableBelow A H C n)). some→ n x) (or-cases (markable A H C n) (markableBelow A H C n) t)
 
   →some : (n a : ℕ) → a < n → T (markable A H C a) → T (markableBelow A H C n)
   unfolding markableBelow
@@ -64,5 +67,6 @@ module _ (R : List Rule) (A : Marks) (H C : ℕ → Bool) (h : IsHeld R A H) (c 
   goes-on n below r e =
       record {
         when-true = λ f s. let q = some→ n (true→T (markableBelow A H C n) (sym e ∙ f)) in s (q .0) (markable-is (q .0) .0 (q .1));
-        when-false = λ f a m. T-not (markableBelow A H C n) (false→not (markableBelow A H C n) (sym e ∙ f)) (→some n a (can-be-marked-below R n below A a m) (markable-is a .1 m));
+        when-false = λ f a m. T-not
+            (markableBelow A H C n) (false→not (markableBelow A H C n) (sym e ∙ f)) (→some n a (can-be-marked-below R n below A a m) (markable-is a .1 m));
       }

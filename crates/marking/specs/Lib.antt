@@ -1,3 +1,1 @@
--- Which fault comes first, and when an atom can be marked.
-pub mod Faults
 pub mod Markable

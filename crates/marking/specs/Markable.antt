@@ -1,4 +1,4 @@
--- Can an unmarked atom be marked, told from the held and the clean literals.
+-- Stage: can an unmarked atom be marked, told from the held and the clean literals.
 use mathlib.Core.Bool.{Bool, true, false, not, _&&_, _||_}
 use mathlib.Core.List.{List}
 use mathlib.Core.Path.{_≡_}

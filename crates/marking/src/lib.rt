@@ -1,89 +1,16 @@
-use refusal::Refusal;
-use words::Checked;
 ghost use mathlib.Core.Path.{_≡_};
 ghost use mathlib.Core.Bool.{not};
-ghost use Prim.Native.Nat.{_≤_, _<_, _-_};
+ghost use Prim.Native.Nat.{_≤_, _<_};
 ghost use lib.Dec.{T};
 ghost use lib.ListN.{length};
+ghost use Rattle.limits.specs.Limits.{mostAtoms};
 ghost use Rattle.bits.specs.Sets.{member};
 ghost use Rattle.words.specs.Layout.{rulesOf};
 ghost use Rattle.least.specs.Passing.{Records};
 ghost use mathlib.Core.Logic.{_↔_};
 ghost use Rattle.paper.specs.Rules.{HeadsBelow};
 ghost use Rattle.paper.specs.Marking.{CanBeMarked};
-ghost use Rattle.refusal.specs.Numbers.{refusal};
-ghost use Rattle.marking.specs.Faults.{marksFrom, recordFault, tableTooLong, roomTooSmall, atomFault};
 ghost use Rattle.marking.specs.Markable.{heldNotClean, conflicts, markable, markableBelow, GoesOn};
-
-// Is one of the `k` atoms from `a` on marked?
-fn marks_from(marks: &[u64], a: usize, k: usize) -> bool
-    requires { ⌜ (a ≤ 512) × (k ≤ 512) ⌝ }
-    ensures { λ r. ⌜ r ≡ marksFrom (member (now (marks .entry))) a k ⌝ }
-{
-    let mut at = a;
-    let mut left = k;
-    while 0 < left {
-        if bits::has(marks, at) {
-            return true;
-        }
-        at += 1;
-        left -= 1;
-    }
-    false
-}
-
-fn refused(number: u64) -> Checked
-    ensures { λ r. ⌜ r ≡ Checked.Refused (refusal number 0) ⌝ }
-{
-    Checked::Refused(Refusal { number, place: 0 })
-}
-
-// 1, then 17.
-pub fn record_fault(n: u64, marks: &[u64]) -> Checked
-    ensures { λ r. ⌜ r ≡ recordFault n (member (now (marks .entry))) ⌝ }
-{
-    if 512 < n {
-        return refused(refusal::TOO_MANY_ATOMS);
-    }
-    let from = n as usize;
-    if marks_from(marks, from, 512 - from) {
-        return refused(refusal::MARK_PAST_ATOMS);
-    }
-    Checked::Accepted
-}
-
-// 2 alone.
-pub fn table_too_long(table: &[u16]) -> Checked
-    ensures { λ r. ⌜ r ≡ tableTooLong (now (table .entry)) ⌝ }
-{
-    if 8192 < table.len() {
-        refused(refusal::TABLE_TOO_LONG)
-    } else {
-        Checked::Accepted
-    }
-}
-
-// 3.
-pub fn room_too_small(n: u64, room: u64) -> Checked
-    ensures { λ r. ⌜ r ≡ roomTooSmall n room ⌝ }
-{
-    if room < n {
-        refused(refusal::VALUE_ROOM_TOO_SMALL)
-    } else {
-        Checked::Accepted
-    }
-}
-
-// 16.
-pub fn atom_fault(n: u64, atom: u64) -> Checked
-    ensures { λ r. ⌜ r ≡ atomFault n atom ⌝ }
-{
-    if atom < n {
-        Checked::Accepted
-    } else {
-        refused(refusal::NO_SUCH_ATOM)
-    }
-}
 
 fn not_clean(clean: &[u64], l: usize) -> bool
     ensures { λ r. ⌜ r ≡ not (member (now (clean .entry)) l) ⌝ }
@@ -104,7 +31,7 @@ fn held_not_clean(held: &[u64], clean: &[u64], l: usize) -> bool
 }
 
 fn conflict(held: &[u64], clean: &[u64], a: usize) -> bool
-    requires { ⌜ a < 512 ⌝ }
+    requires { ⌜ a < mostAtoms ⌝ }
     ensures { λ r. ⌜ r ≡ conflicts (member (now (held .entry))) (member (now (clean .entry))) a ⌝ }
 {
     if bits::has(held, 2 * a) {
@@ -118,7 +45,7 @@ fn conflict(held: &[u64], clean: &[u64], a: usize) -> bool
 
 // Can atom `a` be marked, by the held and the clean literals?
 pub fn is_markable(marks: &[u64], held: &[u64], clean: &[u64], a: usize) -> bool
-    requires { ⌜ a < 512 ⌝ }
+    requires { ⌜ a < mostAtoms ⌝ }
     ensures { λ r. ⌜ r ≡ markable (member (now (marks .entry))) (member (now (held .entry))) (member (now (clean .entry))) a ⌝ }
 {
     if bits::has(marks, a) {
@@ -130,7 +57,7 @@ pub fn is_markable(marks: &[u64], held: &[u64], clean: &[u64], a: usize) -> bool
 
 // Can one of the `n` atoms be marked?
 fn some_markable(marks: &[u64], held: &[u64], clean: &[u64], n: usize) -> bool
-    requires { ⌜ n ≤ 512 ⌝ }
+    requires { ⌜ n ≤ mostAtoms ⌝ }
     ensures { λ r. ⌜ r ≡ markableBelow (member (now (marks .entry))) (member (now (held .entry))) (member (now (clean .entry))) n ⌝ }
 {
     let mut a = n;
@@ -145,7 +72,7 @@ fn some_markable(marks: &[u64], held: &[u64], clean: &[u64], n: usize) -> bool
 
 // Can atom `a` be marked, by the rules of the table?
 pub fn can_be_marked(table: &[u16], marks: &[u64], a: usize) -> bool
-    requires { ⌜ (a < 512) × (length (now marks) ≡ 8) × Records (now table) 0 ⌝ }
+    requires { ⌜ (a < mostAtoms) × (length (now marks) ≡ 8) × Records (now table) 0 ⌝ }
     ensures { λ r. ⌜ T r ↔ CanBeMarked (rulesOf (now (table .entry))) (member (now (marks .entry))) a ⌝ }
 {
     let held = least::held(table, marks);
@@ -155,7 +82,7 @@ pub fn can_be_marked(table: &[u16], marks: &[u64], a: usize) -> bool
 
 // Can any atom be marked, by the rules of the table?
 pub fn can_go_on(table: &[u16], marks: &[u64], n: usize) -> bool
-    requires { ⌜ (n ≤ 512) × (length (now marks) ≡ 8) × Records (now table) 0 × HeadsBelow n (rulesOf (now table)) ⌝ }
+    requires { ⌜ (n ≤ mostAtoms) × (length (now marks) ≡ 8) × Records (now table) 0 × HeadsBelow n (rulesOf (now table)) ⌝ }
     ensures { λ r. ⌜ GoesOn (rulesOf (now (table .entry))) (member (now (marks .entry))) r ⌝ }
 {
     let held = least::held(table, marks);

@@ -37,9 +37,13 @@ true-is-same : (s : List ℕ) (a b n : ℕ) → sameBytes (bytesAt s a n) (bytes
 unfolding sameBytes bytesAt
 true-is-same s a b zero e j l = absurd (omega arith)
 true-is-same s a b (suc n) e zero l =
-    at s (a + 0) a (omega arith) ∙ eqb-true (byteAt s a) (byteAt s b) (both (eqb (byteAt s a) (byteAt s b)) (sameBytes (bytesAt s (suc a) n) (bytesAt s (suc b) n)) e .0) ∙ at s b (b + 0) (omega arith)
+    at s (a + 0) a (omega arith)
+    ∙ eqb-true (byteAt s a) (byteAt s b) (both (eqb (byteAt s a) (byteAt s b)) (sameBytes (bytesAt s (suc a) n) (bytesAt s (suc b) n)) e .0)
+    ∙ at s b (b + 0) (omega arith)
 true-is-same s a b (suc n) e (suc j) l =
-    at s (a + suc j) (suc a + j) (omega arith) ∙ true-is-same s (suc a) (suc b) n (both (eqb (byteAt s a) (byteAt s b)) (sameBytes (bytesAt s (suc a) n) (bytesAt s (suc b) n)) e .1) j (omega arith) ∙ at s (suc b + j) (b + suc j) (omega arith)
+    at s (a + suc j) (suc a + j) (omega arith)
+    ∙ true-is-same s (suc a) (suc b) n (both (eqb (byteAt s a) (byteAt s b)) (sameBytes (bytesAt s (suc a) n) (bytesAt s (suc b) n)) e .1) j (omega arith)
+    ∙ at s (suc b + j) (b + suc j) (omega arith)
 
 differs-is-false : (s : List ℕ) (a b n : ℕ) → (Same s a b n → ⊥) → sameBytes (bytesAt s a n) (bytesAt s b n) ≡ false
 differs-is-false s a b n h = by (sameBytes (bytesAt s a n) (bytesAt s b n)) refl
@@ -120,13 +124,16 @@ module _ (s : List ℕ) (bytes : (i : ℕ) → byteAt s i < 256) where
         by : (t : Bool) → eqb x′ y′ ≡ t → t ≡ sameBytes (bytesAt s a n) (bytesAt s b n)
         by true q =
             sym (same-is-true s a b n
-            (join s a b 4 (n - 4) 4 n (omega arith) (omega arith) (fours-same a b (sym ex ∙ e ∙ ey)) (fours-same (a + (n - 4)) (b + (n - 4)) (sym ex′ ∙ eqb-true x′ y′ q ∙ ey′))))
+            (join s a b 4 (n - 4) 4 n
+            (omega arith) (omega arith) (fours-same a b (sym ex ∙ e ∙ ey)) (fours-same (a + (n - 4)) (b + (n - 4)) (sym ex′ ∙ eqb-true x′ y′ q ∙ ey′))))
         by false q =
             sym (differs-is-false s a b n
-            (λ same. true≢false (sym (eq-eqb x′ y′ (ex′ ∙ same-fours s (a + (n - 4)) (b + (n - 4)) (part s a b n (n - 4) 4 (omega arith) same) ∙ sym ey′)) ∙ q)))
+            (λ same. true≢false
+            (sym (eq-eqb x′ y′ (ex′ ∙ same-fours s (a + (n - 4)) (b + (n - 4)) (part s a b n (n - 4) 4 (omega arith) same) ∙ sym ey′)) ∙ q)))
 
     -- eight bytes or more: eight at a time
-    pub eights-differ : (i x y : ℕ) → i + 8 ≤ n → x ≡ eightAt s (a + i) → y ≡ eightAt s (b + i) → (x ≡ y → ⊥) → false ≡ sameBytes (bytesAt s a n) (bytesAt s b n)
+    pub eights-differ : (i x y : ℕ) → i + 8 ≤ n → x ≡ eightAt s (a + i) → y ≡ eightAt s (b + i)
+        → (x ≡ y → ⊥) → false ≡ sameBytes (bytesAt s a n) (bytesAt s b n)
     eights-differ i x y h ex ey d =
         sym (differs-is-false s a b n (λ same. d (ex ∙ same-eights s (a + i) (b + i) (part s a b n i 8 h same) ∙ sym ey)))
 
@@ -140,7 +147,8 @@ module _ (s : List ℕ) (bytes : (i : ℕ) → byteAt s i < 256) where
       where
         by : (t : Bool) → eqb x y ≡ t → t ≡ sameBytes (bytesAt s a n) (bytesAt s b n)
         by true q =
-            sym (same-is-true s a b n (join s a b i (n - 8) 8 n h′ (omega arith) front (eights-same (a + (n - 8)) (b + (n - 8)) (sym ex ∙ eqb-true x y q ∙ ey))))
+            sym (same-is-true s a b n
+            (join s a b i (n - 8) 8 n h′ (omega arith) front (eights-same (a + (n - 8)) (b + (n - 8)) (sym ex ∙ eqb-true x y q ∙ ey))))
         by false q =
             sym (differs-is-false s a b n
             (λ same. true≢false (sym (eq-eqb x y (ex ∙ same-eights s (a + (n - 8)) (b + (n - 8)) (part s a b n (n - 8) 8 (omega arith) same) ∙ sym ey)) ∙ q)))

@@ -2,18 +2,15 @@
 use mathlib.Core.Path.{_≡_, refl, sym, ap, ap₂, _∙_}
 use mathlib.Core.List.{List, [], _∷_}
 use mathlib.Core.Bool.{Bool, true, false, _&&_, cond, true≢false}
-use Prim.Native.Nat.{ℕ, zero, suc, _+_, _*_, _/_, _%_, _<_, _≤_}
+use Prim.Native.Nat.{ℕ, zero, suc, _+_, _<_, _≤_}
 use native.Mathlib.Omega.{arith}
 use lib.Dec.{eqb}
 use lib.ListN.{length, getD, take, drop}
 use lib.Seq.{drop-cons}
 use borrow.Author.Tests.{eqb-true, eq-eqb}
+use Rattle.sets.proofs.Tests.{and-both}
 use Rattle.reader.specs.Sheet.{byteAt}
 use Rattle.names.specs.Names.{bytesAt, entryFor, startOf, lengthOf, nameOf, sameBytes, numberIn}
-
-both : (a b : Bool) → (a && b) ≡ true → (a ≡ true) × (b ≡ true)
-both true b e = (refl, e)
-both false b e = absurd (true≢false (sym e))
 
 -- names that count as equal have the same bytes, and the other way round
 pub same-bytes-equal : (u v : List ℕ) → sameBytes u v ≡ true → u ≡ v
@@ -22,7 +19,8 @@ same-bytes-equal [] [] e = refl
 same-bytes-equal [] (b ∷ v) e = absurd (true≢false (sym e))
 same-bytes-equal (a ∷ u) [] e = absurd (true≢false (sym e))
 same-bytes-equal (a ∷ u) (b ∷ v) e =
-    ap₂ (λ (x : ℕ) (l : List ℕ). x ∷ l) (eqb-true a b (both (eqb a b) (sameBytes u v) e .0)) (same-bytes-equal u v (both (eqb a b) (sameBytes u v) e .1))
+    ap₂ (λ (x : ℕ) (l : List ℕ). x ∷ l) (eqb-true a b (and-both (eqb a b) (sameBytes u v) e .0))
+    (same-bytes-equal u v (and-both (eqb a b) (sameBytes u v) e .1))
 
 pub equal-same-bytes : (u : List ℕ) → sameBytes u u ≡ true
 unfolding sameBytes

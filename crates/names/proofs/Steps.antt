@@ -4,10 +4,9 @@ use mathlib.Core.List.{List, [], _∷_}
 use mathlib.Core.Bool.{Bool, true, false, _&&_, cond}
 use Prim.Native.Nat.{ℕ, zero, suc, _+_, _-_, _%_, _<_, _≤_}
 use native.Mathlib.Numerals.{add-one}
-use native.Mathlib.Nat.{suc-inj}
 use native.Mathlib.Omega.{arith}
 use lib.Dec.{eqb}
-use lib.ListN.{length, getD, take, drop, length-take, drop-of-length-le}
+use lib.ListN.{length, getD, take, drop, drop-of-length-le}
 use lib.Seq.{drop-cons, getD-take, length-take-le}
 use borrow.Author.Tests.{eq-eqb, ne-eqb}
 use Rattle.reader.specs.Sheet.{byteAt}
@@ -82,7 +81,8 @@ number-at-most s (e ∷ es) name = by (sameBytes (nameOf s e) name) (number-at-m
     by false h = omega arith
 
 -- the search stands at i of the first `count` entries
-module _ (s es name : List ℕ) (count i : ℕ) (fits : count ≤ length es) (inv : i + numberIn s (drop i (take count es)) name ≡ numberIn s (take count es) name) (e : ℕ) (is : e ≡ getD es i 0) where
+module _ (s es name : List ℕ) (count i : ℕ) (fits : count ≤ length es)
+    (inv : i + numberIn s (drop i (take count es)) name ≡ numberIn s (take count es) name) (e : ℕ) (is : e ≡ getD es i 0) where
   entry-there : i < count → getD (take count es) i 0 ≡ e
   entry-there h = getD-take count es i 0 h ∙ sym is
 

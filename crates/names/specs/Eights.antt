@@ -1,4 +1,4 @@
--- Bytes taken two, four and eight at a time, as one number, the first byte lowest.
+-- Stage: bytes taken two, four and eight at a time, as one number, the first byte lowest.
 use mathlib.Core.List.{List}
 use Prim.Native.Nat.{ℕ, _+_, _*_}
 use Rattle.reader.specs.Sheet.{byteAt}

@@ -1,4 +1,4 @@
--- Document 01, "Rule sheet": name entries, and atoms numbered by first appearance.
+-- Believed: name entries, and atoms numbered by first appearance.
 use mathlib.Core.List.{List, [], _∷_}
 use mathlib.Core.Bool.{Bool, true, false, _&&_, cond}
 use Prim.Native.Nat.{ℕ, zero, suc, _+_, _*_, _/_, _%_}

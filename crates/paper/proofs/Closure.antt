@@ -1,34 +1,20 @@
 -- A least set computed: a rule that fires is taken out of those that remain, and its head gets the next rank.
 -- What comes out is closed, and each new member rests on members of smaller rank. Assumes nothing.
-use mathlib.Core.Bool.{Bool, true, false, not, cond, _&&_, _||_}
+use mathlib.Core.Bool.{Bool, true, false, not, cond, _&&_}
 use mathlib.Core.List.{List, [], _∷_, List·Memᴰ·head, List·Memᴰ·tail, List·Memᴰ·cases-cons, List·Memᴰ·not-nil}
 use mathlib.Core.Logic.{_⊎_, inl, inr, ⊎-elim, _↔_}
-use mathlib.Core.Path.{_≡_, refl, subst, subst⁻¹, sym, ap, _∙_}
+use mathlib.Core.Path.{_≡_, refl, subst, subst⁻¹, ap, _∙_}
 use Prim.Native.Nat.{ℕ, zero, suc, _≤_, _<_}
 use native.Mathlib.Omega.{arith}
 use lib.Dec.{T, eqb, eqb→eq, eqb-refl, T-not}
 use lib.ListN.{length}
-use Rattle.paper.specs.Rules.{Rule, IsRuleOf, atom, _∈_}
-use Rattle.paper.specs.Marking.{Marks, Least, from-base, by-fact, by-group, Held, Clean, mark}
-use Rattle.paper.proofs.Tests.{T?, either, and-intro, and-left, and-right, or-left, or-right, or-cases, T→true, not→false, refuted→false}
-use Rattle.paper.proofs.Leasts.{least-contained, marked-itself, mark-⊇, mark-cases}
-
--- all literals of a group are in the set
-abbrev pub wholly : (ℕ → Bool) → List ℕ → Bool
-wholly S [] = true
-wholly S (l ∷ β) = S l && wholly S β
-
-abbrev pub someWholly : (ℕ → Bool) → List (List ℕ) → Bool
-someWholly S [] = false
-someWholly S (β ∷ βs) = wholly S β || someWholly S βs
-
-abbrev pub noGroups : List (List ℕ) → Bool
-noGroups [] = true
-noGroups (β ∷ βs) = false
-
--- a rule that is a fact or has a group wholly in the set
-abbrev pub fires : (ℕ → Bool) → Rule → Bool
-fires S ρ = noGroups (ρ .groups) || someWholly S (ρ .groups)
+use Rattle.paper.specs.Fires.{wholly, someWholly, noGroups, fires}
+use Rattle.paper.specs.Rules.{Rule, IsRuleOf, atom}
+use Rattle.sets.specs.Sets.{_∈_, _with_}
+use Rattle.paper.specs.Marking.{Marks, Least, from-base, by-fact, by-group, Held, Clean}
+use Rattle.sets.proofs.Tests.{and-intro, and-left, and-right, or-left, or-right, or-cases, T→true, refuted→false}
+use Rattle.paper.proofs.Leasts.{least-contained}
+use Rattle.sets.proofs.Besides.{with-itself, with-⊇, with-cases}
 
 -- the same as a fact
 abbrev pub Fires : (ℕ → Bool) → Rule → Type 0
@@ -91,7 +77,7 @@ pub record Keeps (st st′ : Ranking) : Type 0 where
   pub same-rank : (l : ℕ) → T (st .members l) → st′ .rank l ≡ st .rank l
 
 abbrev pub add : Ranking → ℕ → Ranking
-add st h = record { members = mark (st .members) h; rank = λ l. cond (eqb l h) (st .next) (st .rank l); next = suc (st .next) }
+add st h = record { members = st .members with h; rank = λ l. cond (eqb l h) (st .next) (st .rank l); next = suc (st .next) }
 
 -- the rank after one more member
 rank-other : (st : Ranking) (h l : ℕ) → (l ≡ h → ⊥) → add st h .rank l ≡ st .rank l
@@ -105,7 +91,7 @@ member-other st h l n m e = T-not (st .members h) n (subst (λ (z : ℕ). T (st 
 
 pub keeps-add : (st : Ranking) (h : ℕ) → T (not (st .members h)) → Keeps st (add st h)
 keeps-add st h n =
-    record { kept = λ l x. mark-⊇ (st .members) h l x; same-rank = λ l x. rank-other st h l (member-other st h l n x) }
+    record { kept = λ l x. with-⊇ (st .members) h l x; same-rank = λ l x. rank-other st h l (member-other st h l n x) }
 
 pub keeps-trans : {a b c : Ranking} → Keeps a b → Keeps b c → Keeps a c
 keeps-trans g h =
@@ -224,12 +210,12 @@ module _ (R : List Rule) (ok : ℕ → Bool) where
       record {
         keeps = keeps-add st h n;
         came = λ l x.
-            ⊎-elim (λ (e : l ≡ h). inr (subst⁻¹ (Own (add st h)) e itself)) (λ (y : T (st .members l)). inl y) (mark-cases (st .members) h l x);
+            ⊎-elim (λ (e : l ≡ h). inr (subst⁻¹ (Own (add st h)) e itself)) (λ (y : T (st .members l)). inl y) (with-cases (st .members) h l x);
       }
     where
       smaller : (ι : ℕ) → T (st .members ι) → T (add st (ρ .head) .members ι) × (add st (ρ .head) .rank ι < add st (ρ .head) .rank (ρ .head))
       smaller ι x = (
-        mark-⊇ (st .members) (ρ .head) ι x,
+        with-⊇ (st .members) (ρ .head) ι x,
         let e = rank-other st (ρ .head) ι (member-other st (ρ .head) ι n x) in
             let e′ = rank-itself st (ρ .head) in
             let q = b ι x in
@@ -274,16 +260,18 @@ module _ (R : List Rule) (ok : ℕ → Bool) where
           → Outcome st (closure ok n r (addNew st (ρ .head) c))
       step ρ r p true e next =
           next r st (let q = p .2 in omega arith) (λ σ m. sub σ (p .4 σ m))
-          (λ σ m. ⊎-elim (λ (x : σ ∈ rest). ⊎-elim (λ (y : σ ≡ ρ). inr (rw (y, e) tt)) (λ (z : σ ∈ r). inl z) (p .3 σ x)) (λ (y : T (st .members (σ .head))). inr y) (cov σ m)) b
+          (λ σ m. ⊎-elim (λ (x : σ ∈ rest). ⊎-elim (λ (y : σ ≡ ρ). inr (rw (y, e) tt)) (λ (z : σ ∈ r). inl z) (p .3 σ x))
+          (λ (y : T (st .members (σ .head))). inr y) (cov σ m)) b
       step ρ r p false e next =
           let h : ℕ = ρ .head in
           let new : T (not (st .members h)) = rw e tt in
-          let g : Grows st (add st h) = grows-add st ρ b new (sub ρ (p .0)) (and-left (ok h) (fires (st .members) ρ) (p .1)) (fires→ (st .members) ρ (and-right (ok h) (fires (st .members) ρ) (p .1))) in
+          let g : Grows st (add st h) = grows-add st ρ b new
+          (sub ρ (p .0)) (and-left (ok h) (fires (st .members) ρ) (p .1)) (fires→ (st .members) ρ (and-right (ok h) (fires (st .members) ρ) (p .1))) in
           let o : Outcome (add st h) (closure ok n r (add st h)) =
           next r (add st h) (let q = p .2 in omega arith) (λ σ m. sub σ (p .4 σ m))
           (λ σ m. ⊎-elim
-          (λ (x : σ ∈ rest). ⊎-elim (λ (y : σ ≡ ρ). inr (rw y (marked-itself (st .members) h))) (λ (z : σ ∈ r). inl z) (p .3 σ x))
-          (λ (y : T (st .members (σ .head))). inr (mark-⊇ (st .members) h (σ .head) y)) (cov σ m))
+          (λ (x : σ ∈ rest). ⊎-elim (λ (y : σ ≡ ρ). inr (rw y (with-itself (st .members) h))) (λ (z : σ ∈ r). inl z) (p .3 σ x))
+          (λ (y : T (st .members (σ .head))). inr (with-⊇ (st .members) h (σ .head) y)) (cov σ m))
           (bounded-add st h b)
           in
           record { grows = grows-trans g (o .grows); bounded = o .bounded; closed = o .closed }

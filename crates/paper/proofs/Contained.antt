@@ -1,19 +1,21 @@
 -- The held literals of a marking are contained in every well-supported model, for an order of any kind. Assumes nothing.
-use mathlib.Core.Bool.{Bool, true, false, not}
-use mathlib.Core.List.{List, [], _∷_, map, List·Memᴰ·head, List·Memᴰ·tail, List·Memᴰ·cases-cons, List·Memᴰ·not-nil}
-use mathlib.Core.Logic.{_⊎_, inl, inr, ⊎-elim, _↔_}
-use mathlib.Core.Path.{_≡_, refl, subst, subst⁻¹, sym, ap, _∙_}
-use Prim.Native.Nat.{ℕ, zero, suc, _≤_, _<_}
+use mathlib.Core.Bool.{Bool, not}
+use mathlib.Core.List.{List, [], _∷_, List·Memᴰ·head, List·Memᴰ·tail, List·Memᴰ·cases-cons, List·Memᴰ·not-nil}
+use mathlib.Core.Logic.{_⊎_, inl, inr, ⊎-elim}
+use mathlib.Core.Path.{_≡_, refl, subst, sym, ap, _∙_}
+use Prim.Native.Nat.{ℕ, zero, suc, _≤_}
 use native.Mathlib.Omega.{arith}
 use lib.Dec.{T, T-not}
 use lib.ListN.{length}
-use Rattle.paper.specs.Table1.{Value, 𝐟, 𝐮, 𝐢, 𝐭, code, _implies_}
-use Rattle.paper.specs.Rules.{Rule, atom, negation, positive, negative, _∈_}
-use Rattle.paper.specs.Definitions.{Interpretation, value, groupValue, bodyValue, Model, StrictOrder, WellSupportedBy, WellSupported, SupportsRuleOf, _⊆_}
-use Rattle.paper.specs.Marking.{Marks, Marked, Unmarked, Least, from-base, by-fact, by-group, Held, Clean, HeldNotClean, CanBeMarked, Marking, none, one-more, mark, noMarks, IsHeld}
-use Rattle.paper.proofs.Tests.{either, all-or-one-fails}
-use Rattle.paper.proofs.Values.{alone→𝐭, 𝐭→member, 𝐭→alone, 2≤→member, member→2≤, group-𝐭, group-in, body-of-fact, body≥, implies-holds}
-use Rattle.paper.proofs.Leasts.{least-contained, mark-cases, atom-negation, atom-positive, atom-negative, negation-positive, negation-negative, sign}
+use Rattle.paper.specs.Table1.{𝐭, code}
+use Rattle.paper.specs.Rules.{Rule, atom, negation, positive, negative}
+use Rattle.sets.specs.Sets.{_∈_, _⊆_}
+use Rattle.paper.specs.Definitions.{Interpretation, value, groupValue, bodyValue, StrictOrder, WellSupportedBy, SupportsRuleOf}
+use Rattle.paper.specs.Marking.{Marks, Marked, Unmarked, by-fact, by-group, Held, Clean, HeldNotClean, CanBeMarked, Marking, none, one-more, IsHeld}
+use Rattle.sets.proofs.Tests.{either, all-or-one-fails}
+use Rattle.paper.proofs.Values.{alone→𝐭, 𝐭→member, 𝐭→alone, 2≤→member, group-𝐭, group-in, body-of-fact, body≥, implies-holds}
+use Rattle.paper.proofs.Leasts.{least-contained, atom-negation, negation-positive, negation-negative, sign}
+use Rattle.sets.proofs.Besides.{with-cases}
 use Rattle.paper.proofs.Closure.{cleanSet, cleanSet-is}
 
 -- a list without one of its members
@@ -126,7 +128,8 @@ module _ (R : List Rule) (M : Interpretation) (before : ℕ → ℕ → Type 0) 
     can-be-marked→both : (a : ℕ) → CanBeMarked R A a → T (M (positive a)) × T (M (negative a))
     can-be-marked→both a c =
         ⊎-elim (λ (h : Held R A (positive a) × Held R A (negative a)). (held⊆ (positive a) (h .0), held⊆ (negative a) (h .1)))
-        (⊎-elim (λ (h : HeldNotClean R A (positive a)). let b = held-not-clean→both (positive a) h in (b .0, subst (λ (z : ℕ). T (M z)) (negation-positive a) (b .1)))
+        (⊎-elim (λ (h : HeldNotClean R A (positive a)). let b = held-not-clean→both (positive a) h in
+        (b .0, subst (λ (z : ℕ). T (M z)) (negation-positive a) (b .1)))
         (λ (h : HeldNotClean R A (negative a)). let b = held-not-clean→both (negative a) h in (subst (λ (z : ℕ). T (M z)) (negation-negative a) (b .1), b .0)))
         (c .because)
 
@@ -141,7 +144,7 @@ module _ (R : List Rule) (M : Interpretation) (before : ℕ → ℕ → Type 0) 
       ⊎-elim (λ (s : (l ≡ positive (atom l)) × (negation l ≡ negative (atom l))). rw (s .0, e) (b .0))
       (λ (s : (l ≡ negative (atom l)) × (negation l ≡ positive (atom l))). rw (s .0, e) (b .1)) (sign l))
       (λ (m : T (A (atom l))). inv l m)
-      (mark-cases A a (atom l) h)
+      (with-cases A a (atom l) h)
 
   pub held-contained : {n : ℕ} {A : Marks} → Marking R n A → (I : Interpretation) → IsHeld R A I → I ⊆ M
   held-contained {A = A} k I is-held l m = held⊆ A (marked⊆ k) l (is-held l .0 m)

@@ -1,15 +1,16 @@
 -- P1 to P12: each is computed, and the computation is what the definitions say. Assumes nothing.
-use mathlib.Core.Bool.{Bool, true, false, not, _&&_}
+use mathlib.Core.Bool.{Bool, true, not, _&&_}
 use mathlib.Core.List.{List, [], _∷_, List·Memᴰ·cases-cons, List·Memᴰ·not-nil}
-use mathlib.Core.Logic.{_⊎_, ⊎-elim}
+use mathlib.Core.Logic.{⊎-elim}
 use mathlib.Core.Path.{_≡_, refl, subst, subst⁻¹, sym, ap, _∙_}
-use Prim.Native.Nat.{ℕ, zero, suc, _*_}
+use Prim.Native.Nat.{ℕ, _*_}
 use lib.Dec.{T, T-not, eqb, eqb-refl, ltb, ltb→lt}
-use Rattle.paper.specs.Rules.{Rule, OneRulePerHead, HeadsBelow, _∈_}
+use Rattle.paper.specs.Rules.{Rule, OneRulePerHead, HeadsBelow}
+use Rattle.sets.specs.Sets.{_∈_, count}
 use Rattle.paper.specs.Definitions.{Interpretation, Model, WellSupported, SmallestWellSupported}
-use Rattle.paper.specs.Marking.{Marks, Marking, Settled, count, inconsistent}
+use Rattle.paper.specs.Marking.{Marks, Marking, Settled, inconsistent}
 use Rattle.paper.specs.Examples.{Example, Says, valuesFrom, allLiterals, examples, P1, P2, P3, P4, P5, P6, P7, P8, P9, P10, P11, P12}
-use Rattle.paper.proofs.Tests.{and-left, and-right}
+use Rattle.sets.proofs.Tests.{and-left, and-right}
 use Rattle.paper.proofs.OtherModels.{each, no-more, P2-all, P6-all, P10-only-a-model}
 use Rattle.paper.proofs.Closure.{heldSet}
 use Rattle.paper.proofs.Existence.{settledMarks, settledMarks-is, atomsOf, atomsOf-enough}
@@ -79,7 +80,8 @@ says e d b v c also only =
     let k = settledMarks-is (e .rules) (atomsOf (e .rules)) (atomsOf-enough (e .rules)) in
     record {
       one-rule-per-head = one;
-      smallest = λ I i. ap (λ (J : Interpretation). valuesFrom J 0 (e .atoms)) (smallest-any-unique (e .rules) I (model e) i (smallestSet-is-any (e .rules) one)) ∙ v;
+      smallest =
+          λ I i. ap (λ (J : Interpretation). valuesFrom J 0 (e .atoms)) (smallest-any-unique (e .rules) I (model e) i (smallestSet-is-any (e .rules) one)) ∙ v;
       exists = (model e, smallestSet-is-any (e .rules) one);
       marks-made = made;
       settles = (A, subst (λ (n : ℕ). Marking (e .rules) n A) (made (k .0) A (k .1) (k .2)) (k .1), k .2);

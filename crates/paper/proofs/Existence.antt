@@ -1,16 +1,17 @@
 -- A settled marking is found by computation: mark the first atom that can be marked, until there is none. Assumes nothing.
 use mathlib.Core.Bool.{Bool, true, false, not, cond, _&&_, _||_}
 use mathlib.Core.List.{List, [], _∷_, List·Memᴰ·cases-cons, List·Memᴰ·not-nil}
-use mathlib.Core.Logic.{_⊎_, inl, inr, ⊎-elim, _↔_}
-use mathlib.Core.Path.{_≡_, refl, subst, subst⁻¹, sym, ap, _∙_}
-use Prim.Native.Nat.{ℕ, zero, suc, _≤_, _<_, _*_, _+_, max}
+use mathlib.Core.Logic.{_⊎_, inl, inr, ⊎-elim}
+use mathlib.Core.Path.{_≡_, refl, subst⁻¹}
+use Prim.Native.Nat.{ℕ, zero, suc, _≤_, _<_, _+_, max}
 use native.Mathlib.Omega.{arith}
 use lib.Dec.{T, T-not}
-use Rattle.paper.specs.Rules.{Rule, HeadsBelow, atom, positive, negative, _∈_}
-use Rattle.paper.specs.Marking.{Marks, Unmarked, Held, Clean, HeldNotClean, CanBeMarked, Settled, Marking, none, one-more, mark, noMarks, count, Pass, end, marks, leaves, Passes, no-pass, then-pass, Marked}
-use Rattle.paper.proofs.Tests.{either, T?, and-intro, and-left, and-right, or-left, or-right, or-cases}
+use Rattle.paper.specs.Rules.{Rule, HeadsBelow, atom, positive, negative}
+use Rattle.sets.specs.Sets.{_∈_, _with_, count}
+use Rattle.paper.specs.Marking.{Marks, Held, HeldNotClean, CanBeMarked, Settled, Marking, none, one-more, noMarks, Pass, end, marks, leaves, Passes, no-pass, then-pass, Marked}
+use Rattle.sets.proofs.Tests.{either, and-intro, and-left, and-right, or-left, or-right, or-cases}
 use Rattle.paper.proofs.Closure.{heldSet, heldSet-is, cleanSet, cleanSet-is}
-use Rattle.paper.proofs.Counting.{count-full, count-less}
+use Rattle.sets.proofs.Counting.{count-full, count-less}
 use Rattle.paper.proofs.Order.{marking-count, can-be-marked-below, all-marked→settled, pass-⊇, pass-marks}
 
 -- held and not clean, as a test
@@ -66,15 +67,6 @@ module _ (R : List Rule) (A : Marks) where
       (λ (y : HeldNotClean R A n). or-right (heldNotClean R A p) (heldNotClean R A n) (→heldNotClean n y)) x))
       (c .because))
 
-  pub can-be-marked? : (a : ℕ) → Dec (CanBeMarked R A a)
-  can-be-marked? a = elim (T? (canBeMarked R A a)) [ yes h ↦ yes (canBeMarked→ a h) | no h ↦ no (λ c. h (→canBeMarked a c)) ]
-
--- a pass over any atoms can be made
-pub some-pass : (R : List Rule) (A : Marks) (l : List ℕ) → (B : Marks) × Pass R A l B
-some-pass R A [] = (A, end)
-some-pass R A (a ∷ l) =
-    elim (can-be-marked? R A a) [ yes c ↦ (let p = some-pass R (mark A a) l in (p .0, marks c (p .1))) | no c ↦ (let p = some-pass R A l in (p .0, leaves c (p .1))) ]
-
 -- an atom below N that passes a test, if there is one
 pub data Found : Type 0 where
   nowhere : Found
@@ -108,7 +100,7 @@ search-is test (suc n) = go (test n) refl (search test n) (search-is test n)
 
 abbrev andOn : (Marks → Marks) → Marks → Found → Marks
 andOn k A nowhere = A
-andOn k A (found a) = k (mark A a)
+andOn k A (found a) = k (A with a)
 
 -- at most `fuel` marks
 abbrev settle : List Rule → ℕ → ℕ → Marks → Marks
@@ -132,7 +124,7 @@ module _ (R : List Rule) (N : ℕ) (below : HeadsBelow N R) where
           → (m : ℕ) × Marking R m (andOn (λ B. settle R N fuel B) A f) × Settled R (andOn (λ B. settle R N fuel B) A f)
       go nowhere w next =
           (n, k, λ a c. T-not (canBeMarked R A a) (w a (can-be-marked-below R N below A a c)) (→canBeMarked R A a c))
-      go (found a) w next = next (suc n) (mark A a) (one-more a k (canBeMarked→ R A a w)) (omega arith)
+      go (found a) w next = next (suc n) (A with a) (one-more a k (canBeMarked→ R A a w)) (omega arith)
 
   pub settledMarks-is : (m : ℕ) × Marking R m (settledMarks R N) × Settled R (settledMarks R N)
   settledMarks-is = settle-is N 0 noMarks none (omega arith)

@@ -1,15 +1,15 @@
 -- Laws of Held and Clean as least sets. Assumes nothing.
-use mathlib.Core.Bool.{Bool, true, false, not, cond}
+use mathlib.Core.Bool.{Bool, false, not}
 use mathlib.Core.List.{List, []}
 use mathlib.Core.Logic.{_⊎_, inl, inr, ⊎-elim}
-use mathlib.Core.Path.{_≡_, refl, subst, subst⁻¹}
-use Prim.Native.Nat.{ℕ, suc, _≤_, _<_, _*_, _+_, _/_}
+use mathlib.Core.Path.{_≡_, subst, subst⁻¹}
+use Prim.Native.Nat.{ℕ}
 use native.Mathlib.Omega.{arith}
-use lib.Dec.{T, eqb, eqb→eq, eqb-refl}
-use Rattle.paper.specs.Rules.{Rule, HeadsBelow, atom, negation, positive, negative, _∈_}
-use Rattle.paper.specs.Definitions.{_⊆_}
-use Rattle.paper.specs.Marking.{Marks, Marked, Unmarked, Least, from-base, by-fact, by-group, Held, Clean, HeldNotClean, CanBeMarked, Settled, mark, noMarks}
-use Rattle.paper.proofs.Tests.{either}
+use lib.Dec.{T, eqb, eqb→eq}
+use Rattle.paper.specs.Rules.{Rule, atom, negation, positive, negative}
+use Rattle.sets.specs.Sets.{_∈_, _⊆_}
+use Rattle.paper.specs.Marking.{Marks, Unmarked, Least, from-base, by-fact, by-group, Held, Clean, HeldNotClean, CanBeMarked}
+use Rattle.sets.proofs.Tests.{either}
 
 -- the least set is contained in every set that has base and is closed under the allowed rules
 pub least-contained : {R : List Rule} {base allowed : ℕ → Type 0} (S : ℕ → Type 0) → ((l : ℕ) → base l → S l)
@@ -59,44 +59,17 @@ module _ {R : List Rule} where
         unmarked = u;
         because = ⊎-elim (λ (h : Held R A (positive a) × Held R A (negative a)). inl (held-mono A B s (h .0), held-mono A B s (h .1)))
             (λ (h : HeldNotClean R A (positive a) ⊎ HeldNotClean R A (negative a)).
-            inr (⊎-elim (λ (p : HeldNotClean R A (positive a)). inl (carry (positive a) p)) (λ (n : HeldNotClean R A (negative a)). inr (carry (negative a) n)) h))
+            inr (⊎-elim (λ (p : HeldNotClean R A (positive a)). inl (carry (positive a) p))
+            (λ (n : HeldNotClean R A (negative a)). inr (carry (negative a) n)) h))
             (c .because);
       }
     where
       carry : (l : ℕ) → HeldNotClean R A l → HeldNotClean R B l
       carry l h = (held-mono A B s (h .0), λ k. h .1 (clean-anti A B s k))
 
--- what mark does
-pub marked-itself : (A : Marks) (a : ℕ) → Marked (mark A a) a
-marked-itself A a = go (eqb a a) (eqb-refl a)
-  where
-    go : (b : Bool) → T b → T (cond b true (A a))
-    go true h = tt
-    go false h = absurd h
-
-pub mark-⊇ : (A : Marks) (a : ℕ) → A ⊆ mark A a
-mark-⊇ A a b h = go (eqb b a)
-  where
-    go : (x : Bool) → T (cond x true (A b))
-    go true = tt
-    go false = h
-
-pub mark-cases : (A : Marks) (a b : ℕ) → Marked (mark A a) b → (b ≡ a) ⊎ Marked A b
-mark-cases A a b h = go (eqb b a) (λ t. eqb→eq b a t) h
-  where
-    go : (x : Bool) → (T x → b ≡ a) → T (cond x true (A b)) → (b ≡ a) ⊎ T (A b)
-    go true f k = inl (f tt)
-    go false f k = inr k
-
-pub mark-⊆ : (A B : Marks) (a : ℕ) → A ⊆ B → Marked B a → mark A a ⊆ B
-mark-⊆ A B a s h b k = ⊎-elim (λ (e : b ≡ a). rw e h) (λ (m : T (A b)). s b m) (mark-cases A a b k)
-
 -- literals and atoms
 pub atom-negation : (l : ℕ) → atom (negation l) ≡ atom l
 atom-negation l = omega arith
-
-pub negation-negation : (l : ℕ) → negation (negation l) ≡ l
-negation-negation l = omega arith
 
 pub negation-positive : (a : ℕ) → negation (positive a) ≡ negative a
 negation-positive a = omega arith

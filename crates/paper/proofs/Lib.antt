@@ -1,5 +1,4 @@
 -- Rooms of the proof, from the leaves up; Theorems holds the public statements.
-pub mod Tests
 pub mod OtherModels
 pub mod Values
 pub mod Leasts
@@ -7,7 +6,6 @@ pub mod Closure
 pub mod Settled
 pub mod Contained
 pub mod Supported
-pub mod Counting
 pub mod Order
 pub mod Existence
 pub mod Smallest

@@ -1,18 +1,20 @@
 -- The order of marking never matters. Assumes nothing.
-use mathlib.Core.Bool.{Bool, true, false, not}
-use mathlib.Core.List.{List, [], _∷_, List·Memᴰ·cases-cons, List·Memᴰ·not-nil}
-use mathlib.Core.Logic.{_⊎_, inl, inr, ⊎-elim, _↔_}
-use mathlib.Core.Path.{_≡_, refl, subst, subst⁻¹, sym, ap, _∙_}
-use Prim.Native.Nat.{ℕ, zero, suc, _≤_, _<_, _*_, _/_}
+use mathlib.Core.Bool.{not}
+use mathlib.Core.List.{List, List·Memᴰ·cases-cons, List·Memᴰ·not-nil}
+use mathlib.Core.Logic.{_⊎_, inl, inr, ⊎-elim}
+use mathlib.Core.Path.{_≡_, refl, subst, ap, _∙_}
+use Prim.Native.Nat.{ℕ, suc, _<_}
 use native.Mathlib.Omega.{arith}
 use lib.Dec.{T, T-not}
 use Rattle.paper.specs.Table1.{Value, 𝐟, 𝐮, 𝐢, 𝐭, code}
-use Rattle.paper.specs.Rules.{Rule, HeadsBelow, atom, negation, positive, negative, _∈_}
-use Rattle.paper.specs.Definitions.{Interpretation, value, _⊆_}
-use Rattle.paper.specs.Marking.{Marks, Marked, Unmarked, Least, from-base, by-fact, by-group, Held, Clean, HeldNotClean, CanBeMarked, Settled, Marking, none, one-more, mark, noMarks, count, Pass, end, marks, leaves, IsHeld, isInconsistent, inconsistent}
-use Rattle.paper.proofs.Tests.{either, same-tests→≡}
-use Rattle.paper.proofs.Leasts.{can-be-marked-mono, mark-⊇, mark-⊆, mark-cases, marked-itself, atom-positive, atom-negative, negation-positive}
-use Rattle.paper.proofs.Counting.{count-≡, count-mark, count-none}
+use Rattle.paper.specs.Rules.{Rule, HeadsBelow, atom, positive, negative}
+use Rattle.sets.specs.Sets.{_∈_, _⊆_, _with_, count}
+use Rattle.paper.specs.Definitions.{Interpretation, value}
+use Rattle.paper.specs.Marking.{Marks, Marked, Unmarked, from-base, by-fact, by-group, Held, HeldNotClean, CanBeMarked, Settled, Marking, none, one-more, noMarks, Pass, end, marks, leaves, IsHeld, isInconsistent, inconsistent}
+use Rattle.sets.proofs.Tests.{either, same-tests→≡}
+use Rattle.paper.proofs.Leasts.{can-be-marked-mono, atom-positive, atom-negative}
+use Rattle.sets.proofs.Besides.{with-⊇, with-⊆, with-itself}
+use Rattle.sets.proofs.Counting.{count-with, count-none}
 use Rattle.paper.proofs.Settled.{marked→𝐢, 𝐢→marked}
 use Rattle.paper.proofs.Values.{2≤→member}
 
@@ -22,7 +24,7 @@ module _ (R : List Rule) where
   marking⊆settled B none s = λ a h. absurd h
   marking⊆settled B (one-more {A = A} a k c) s =
       let below : A ⊆ B = marking⊆settled B k s in
-      mark-⊆ A B a below
+      with-⊆ A B a below
       (⊎-elim (λ (m : T (B a)). m) (λ (u : T (not (B a))). absurd (s a (can-be-marked-mono A B below a u c))) (either (B a)))
 
   -- two settled markings so reached are equal
@@ -32,20 +34,20 @@ module _ (R : List Rule) where
   -- a pass keeps the marks
   pub pass-⊇ : {A B : Marks} {l : List ℕ} → Pass R A l B → A ⊆ B
   pass-⊇ end a h = h
-  pass-⊇ (marks {A = A} {a = x} c p) a h = pass-⊇ p a (mark-⊇ A x a h)
+  pass-⊇ (marks {A = A} {a = x} c p) a h = pass-⊇ p a (with-⊇ A x a h)
   pass-⊇ (leaves n p) a h = pass-⊇ p a h
 
   -- a pass marks each of its atoms that could be marked when it began
   pub pass-marks : {A B : Marks} {l : List ℕ} → Pass R A l B → (a : ℕ) → a ∈ l → CanBeMarked R A a → Marked B a
   pass-marks end a m c = absurd (List·Memᴰ·not-nil m)
   pass-marks (marks {A = A} {B = B} {a = x} {rest = r} d p) a m c =
-      go (either (mark A x a)) (λ i c′. pass-marks p a i c′)
+      go (either ((A with x) a)) (λ i c′. pass-marks p a i c′)
     where
-      go : T (mark A x a) ⊎ T (not (mark A x a)) → (a ∈ r → CanBeMarked R (mark A x) a → Marked B a) → Marked B a
+      go : T ((A with x) a) ⊎ T (not ((A with x) a)) → (a ∈ r → CanBeMarked R (A with x) a → Marked B a) → Marked B a
       go (inl h) below = pass-⊇ p a h
       go (inr u) below =
-          ⊎-elim (λ (e : a ≡ x). absurd (T-not (mark A x a) u (rw e (marked-itself A x))))
-          (λ (i : a ∈ r). below i (can-be-marked-mono A (mark A x) (mark-⊇ A x) a u c)) (List·Memᴰ·cases-cons m)
+          ⊎-elim (λ (e : a ≡ x). absurd (T-not ((A with x) a) u (rw e (with-itself A x))))
+          (λ (i : a ∈ r). below i (can-be-marked-mono A (A with x) (with-⊇ A x) a u c)) (List·Memᴰ·cases-cons m)
   pass-marks (leaves {A = A} {a = x} {rest = r} n p) a m c =
       ⊎-elim (λ (e : a ≡ x). absurd (n (subst (CanBeMarked R A) e c))) (λ (i : a ∈ r). pass-marks p a i c) (List·Memᴰ·cases-cons m)
 
@@ -81,12 +83,7 @@ module _ (R : List Rule) where
     pub marking-count : {n : ℕ} {A : Marks} → Marking R n A → count N A ≡ n
     marking-count none = count-none N noMarks (λ a h. tt)
     marking-count (one-more {A = A} a k c) =
-        count-mark N A a (can-be-marked-below A a c) (c .unmarked) ∙ ap suc (marking-count k)
-
-    pub marked-below : {n : ℕ} {A : Marks} → Marking R n A → (a : ℕ) → Marked A a → a < N
-    marked-below none a h = absurd h
-    marked-below (one-more {A = A} x k c) a h =
-        ⊎-elim (λ (e : a ≡ x). subst⁻¹ (λ (z : ℕ). z < N) e (can-be-marked-below A x c)) (λ (m : T (A a)). marked-below k a m) (mark-cases A x a h)
+        count-with N A a (can-be-marked-below A a c) (c .unmarked) ∙ ap suc (marking-count k)
 
 is𝐢→ : (v : Value) → T (isInconsistent v) → v ≡ 𝐢
 is𝐢→ 𝐟 h = absurd h
@@ -100,4 +97,5 @@ settled-inconsistent R A I is-held s a =
     same-tests→≡ (A a) (inconsistent I a) (λ m. rw (marked→𝐢 R A I is-held (positive a) (rw (atom-positive a) m)) tt)
     (λ h.
     let e : value I (positive a) ≡ 𝐢 = is𝐢→ (value I (positive a)) h in
-    rw (atom-positive a) at (𝐢→marked R A I is-held s (positive a) (2≤→member I (positive a) (let k : code (value I (positive a)) ≡ 2 = ap code e in omega arith)) e))
+    rw (atom-positive a)
+    at (𝐢→marked R A I is-held s (positive a) (2≤→member I (positive a) (let k : code (value I (positive a)) ≡ 2 = ap code e in omega arith)) e))

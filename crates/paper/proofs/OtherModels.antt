@@ -6,11 +6,12 @@ use mathlib.Core.Path.{_≡_, refl, subst⁻¹, sym, ap, _∙_}
 use Prim.Native.Nat.{ℕ, zero, suc, _<_}
 use native.Mathlib.Omega.{arith}
 use lib.Dec.{T, T-not, eqb, eqb→eq, eqb-refl, ltb, ltb→lt, lt→ltb}
-use Rattle.paper.specs.Table1.{𝐢, 𝐭, code}
-use Rattle.paper.specs.Rules.{Rule, positive, negative, negation, _∈_}
+use Rattle.paper.specs.Table1.{𝐢, code}
+use Rattle.paper.specs.Rules.{Rule, positive, negative, negation}
+use Rattle.sets.specs.Sets.{_∈_}
 use Rattle.paper.specs.Definitions.{value, groupValue, anyValue, bodyValue, Model, SupportsRuleOf, RestsOnInconsistent, WellSupported}
 use Rattle.paper.specs.Examples.{P2, P6, P10, allLiterals, allButNegativeB}
-use Rattle.paper.proofs.Tests.{either, T→true}
+use Rattle.sets.proofs.Tests.{either, T→true}
 
 -- a statement of each member of a list, one by one
 pub each {ℓ} : {A : Type 0} {P : A → Type ℓ} {x : A} {l : List A} → P x → ((y : A) → y ∈ l → P y) → (y : A) → y ∈ (x ∷ l) → P y

@@ -1,18 +1,19 @@
 -- A settled marking: marked atoms are i, clean literals are t, and the held literals are a model. Assumes nothing.
 use mathlib.Core.Bool.{Bool, true, false, not}
 use mathlib.Core.List.{List, []}
-use mathlib.Core.Logic.{_⊎_, inl, inr, ⊎-elim, _↔_}
-use mathlib.Core.Path.{_≡_, refl, subst, subst⁻¹, sym, ap, _∙_}
-use Prim.Native.Nat.{ℕ, zero, suc, _≤_, _<_}
+use mathlib.Core.Logic.{_⊎_, inl, inr, ⊎-elim}
+use mathlib.Core.Path.{_≡_, refl, subst, sym, ap}
+use Prim.Native.Nat.{ℕ, _≤_, _<_}
 use native.Mathlib.Omega.{arith}
 use lib.Dec.{T, T-not, leb, leb→le, nleb→lt}
-use Rattle.paper.specs.Table1.{Value, 𝐟, 𝐮, 𝐢, 𝐭, code, _implies_}
-use Rattle.paper.specs.Rules.{Rule, OneRulePerHead, atom, negation, positive, negative, _∈_}
-use Rattle.paper.specs.Definitions.{Interpretation, value, byMembership, groupValue, bodyValue, Model}
-use Rattle.paper.specs.Marking.{Marks, Marked, Unmarked, Least, from-base, by-fact, by-group, Held, Clean, HeldNotClean, CanBeMarked, Settled, IsHeld, byMarkAndHeld, settledValue}
-use Rattle.paper.proofs.Tests.{either, T→true, not→false}
-use Rattle.paper.proofs.Values.{alone→𝐭, both→𝐢, 𝐭→member, 𝐭→alone, 𝐢→negation, 2≤→member, group-member, group-in, all-𝐭→group-𝐭, body-of-fact, body≥, body-attained, 3≤code→𝐭, low-body-implies, implies-𝐢}
-use Rattle.paper.proofs.Leasts.{clean→held, clean→unmarked, atom-negation, atom-positive, atom-negative, negation-positive, sign}
+use Rattle.paper.specs.Table1.{𝐢, 𝐭, code, _implies_}
+use Rattle.paper.specs.Rules.{Rule, OneRulePerHead, atom, negation, positive, negative}
+use Rattle.sets.specs.Sets.{_∈_}
+use Rattle.paper.specs.Definitions.{Interpretation, value, groupValue, bodyValue, Model}
+use Rattle.paper.specs.Marking.{Marks, Marked, Unmarked, from-base, by-fact, by-group, Held, Clean, HeldNotClean, Settled, IsHeld, byMarkAndHeld, settledValue}
+use Rattle.sets.proofs.Tests.{either}
+use Rattle.paper.proofs.Values.{alone→𝐭, both→𝐢, 𝐭→member, 𝐭→alone, 𝐢→negation, group-member, all-𝐭→group-𝐭, body-of-fact, body≥, body-attained, 3≤code→𝐭, low-body-implies, implies-𝐢}
+use Rattle.paper.proofs.Leasts.{clean→held, clean→unmarked, atom-negation, atom-positive, negation-positive, sign}
 use Rattle.paper.proofs.Closure.{cleanSet, cleanSet-is}
 
 module _ (R : List Rule) (A : Marks) (I : Interpretation) (is-held : IsHeld R A I) where
@@ -86,7 +87,8 @@ module _ (R : List Rule) (A : Marks) (I : Interpretation) (is-held : IsHeld R A 
 
     -- the held literals are a model (Definition 6)
     pub settled-model : OneRulePerHead R → Model R I
-    settled-model one ρ m = split (leb (code (bodyValue I (ρ .groups))) 1) (λ t. leb→le (code (bodyValue I (ρ .groups))) 1 t) (λ t. nleb→lt (code (bodyValue I (ρ .groups))) 1 t)
+    settled-model one ρ m =
+        split (leb (code (bodyValue I (ρ .groups))) 1) (λ t. leb→le (code (bodyValue I (ρ .groups))) 1 t) (λ t. nleb→lt (code (bodyValue I (ρ .groups))) 1 t)
       where
         clean-head : Clean R A (ρ .head) → bodyValue I (ρ .groups) ≡ 𝐭
         clean-head (from-base h) = absurd h

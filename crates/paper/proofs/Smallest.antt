@@ -1,21 +1,20 @@
 -- The smallest well-supported model: it exists, is one, and is the same for every kind of order. Assumes nothing.
-use mathlib.Core.Bool.{Bool, true, false, not}
 use mathlib.Core.List.{List}
-use mathlib.Core.Logic.{_⊎_, inl, inr, ⊎-elim, _↔_}
-use mathlib.Core.Path.{_≡_, refl, subst, subst⁻¹, sym, ap, _∙_, fun-ext}
-use Prim.Native.Nat.{ℕ, _<_}
+use mathlib.Core.Logic.{_↔_}
+use mathlib.Core.Path.{_≡_, subst, sym, ap, _∙_, fun-ext}
+use Prim.Native.Nat.{ℕ}
 use lib.Dec.{T}
-use Rattle.paper.specs.Table1.{Value}
 use Rattle.paper.specs.Rules.{Rule, OneRulePerHead, HeadsBelow, positive}
-use Rattle.paper.specs.Definitions.{Interpretation, value, WellSupported, WellSupportedByTest, SmallestWellSupported, Smallest, _⊆_}
-use Rattle.paper.specs.Marking.{Marks, Marking, Settled, IsHeld, count, inconsistent, settledValue}
-use Rattle.paper.proofs.Tests.{same-tests→≡}
+use Rattle.paper.specs.Definitions.{Interpretation, value, WellSupported, WellSupportedByTest, SmallestWellSupported, Smallest}
+use Rattle.sets.specs.Sets.{count}
+use Rattle.paper.specs.Marking.{Marks, Marking, Settled, IsHeld, inconsistent, settledValue}
+use Rattle.sets.proofs.Tests.{same-tests→≡}
 use Rattle.paper.proofs.Closure.{heldSet, heldSet-is}
 use Rattle.paper.proofs.Contained.{held-contained}
 use Rattle.paper.proofs.Supported.{settled-supported}
 use Rattle.paper.proofs.Settled.{settledValue-is}
 use Rattle.paper.proofs.Order.{marking-count, settled-inconsistent}
-use Rattle.paper.proofs.Counting.{count-≡}
+use Rattle.sets.proofs.Counting.{count-≡}
 use Rattle.paper.proofs.Existence.{settledMarks, settledMarks-is, atomsOf, atomsOf-enough}
 
 pub test→any : (R : List Rule) (I : Interpretation) → WellSupportedByTest R I → WellSupported R I

@@ -4,19 +4,21 @@
 use mathlib.Core.Bool.{Bool, true, false, not, cond}
 use mathlib.Core.List.{List, []}
 use mathlib.Core.Logic.{_⊎_, inl, inr, ⊎-elim, _↔_}
-use mathlib.Core.Path.{_≡_, refl, subst, subst⁻¹, sym, ap, _∙_}
-use Prim.Native.Nat.{ℕ, zero, suc, _≤_, _<_, _+_}
+use mathlib.Core.Path.{_≡_, refl, ap}
+use Prim.Native.Nat.{ℕ, _≤_, _<_, _+_}
 use native.Mathlib.Omega.{arith}
 use lib.Dec.{T, T-not, leb, leb→le, nleb→lt, ltb, ltb→lt, lt→ltb}
-use Rattle.paper.specs.Table1.{Value, 𝐟, 𝐮, 𝐢, 𝐭, code}
-use Rattle.paper.specs.Rules.{Rule, IsRuleOf, OneRulePerHead, atom, negation, positive, negative, _∈_}
-use Rattle.paper.specs.Definitions.{Interpretation, value, groupValue, bodyValue, StrictOrder, Carries, Supports, SupportsRuleOf, RestsOnInconsistent, WellSupportedBy, WellSupportedByTest, _⊆_}
-use Rattle.paper.specs.Marking.{Marks, Marked, Unmarked, Least, from-base, by-fact, by-group, Held, Clean, HeldNotClean, CanBeMarked, Settled, Marking, none, one-more, mark, noMarks, IsHeld}
-use Rattle.paper.proofs.Tests.{either, T→true, not→false}
-use Rattle.paper.proofs.Values.{2≤→member, group-in, group-𝐭, all-𝐭→group-𝐭, body≥, body-attained, code≤3, 3≤code→𝐭, code2→𝐢}
-use Rattle.paper.proofs.Leasts.{held-mono, clean-anti, clean→unmarked, mark-⊇, mark-cases, marked-itself, atom-negation, atom-positive, atom-negative, negation-positive, negation-negative, negation-negation, sign}
-use Rattle.paper.proofs.Closure.{Ranking, Keeps, keeps-add, keeps-trans, Bounded, bounded-add, add, Own, own-kept, Grows, Outcome, close, close-outcome, start, start-outcome, cleanSet, cleanSet-is, grows→least, closed→least}
-use Rattle.paper.proofs.Settled.{marked→member, unmarked→clean, clean→𝐭, 𝐭→clean, 𝐢→marked, settled-model, clean-body-𝐭}
+use Rattle.paper.specs.Table1.{𝐢, 𝐭, code}
+use Rattle.paper.specs.Rules.{Rule, IsRuleOf, OneRulePerHead, atom, negation, positive, negative}
+use Rattle.sets.specs.Sets.{_∈_, _⊆_, _with_}
+use Rattle.paper.specs.Definitions.{Interpretation, value, groupValue, bodyValue, StrictOrder, Carries, Supports, SupportsRuleOf, RestsOnInconsistent, WellSupportedByTest}
+use Rattle.paper.specs.Marking.{Marks, Marked, Unmarked, from-base, by-fact, by-group, Held, Clean, HeldNotClean, CanBeMarked, Settled, Marking, none, one-more, IsHeld}
+use Rattle.sets.proofs.Tests.{either, T→true, not→false}
+use Rattle.paper.proofs.Values.{group-in, group-𝐭, all-𝐭→group-𝐭, body≥, body-attained, 3≤code→𝐭, code2→𝐢}
+use Rattle.paper.proofs.Leasts.{held-mono, clean-anti, clean→unmarked, atom-negation, atom-positive, atom-negative, negation-positive, negation-negative, sign}
+use Rattle.sets.proofs.Besides.{with-⊇, with-cases, with-itself}
+use Rattle.paper.proofs.Closure.{Ranking, Keeps, keeps-add, Bounded, bounded-add, add, Own, own-kept, Outcome, close, close-outcome, start, start-outcome, cleanSet-is, grows→least, closed→least}
+use Rattle.paper.proofs.Settled.{unmarked→clean, clean→𝐭, 𝐭→clean, 𝐢→marked, settled-model}
 
 abbrev every : ℕ → Bool
 every l = true
@@ -66,8 +68,8 @@ module _ (R : List Rule) where
   rests-kept A B s k l m (inr v) = inr (s (atom l) (v .0), serves-kept A B s k l (v .1))
 
   -- a set that has the held literals and the newly marked ones, closed again
-  close-again : (A : Marks) (a : ℕ) (st : Ranking) → Bounded st → ((l : ℕ) → T (st .members l) → Held R (mark A a) l)
-      → ((l : ℕ) → T (st .members l) → Rests R (mark A a) st l) → ((l : ℕ) → Marked (mark A a) (atom l) → T (st .members l)) → RankedHeld R (mark A a)
+  close-again : (A : Marks) (a : ℕ) (st : Ranking) → Bounded st → ((l : ℕ) → T (st .members l) → Held R (A with a) l)
+      → ((l : ℕ) → T (st .members l) → Rests R (A with a) st l) → ((l : ℕ) → Marked (A with a) (atom l) → T (st .members l)) → RankedHeld R (A with a)
   unfolding Rests
   close-again A a st b s r base =
       let o : Outcome R every st (close R every st) = close-outcome R every st b in
@@ -79,42 +81,44 @@ module _ (R : List Rule) where
         );
         bounded = o .bounded;
         rests = λ l m.
-            ⊎-elim (λ (x : T (st .members l)). rests-kept (mark A a) (mark A a) (λ x h. h) (o .grows .keeps) l x (r l x)) (λ (w : Own R every (close R every st) l). inl w)
+            ⊎-elim (λ (x : T (st .members l)). rests-kept (A with a) (A with a) (λ x h. h) (o .grows .keeps) l x (r l x))
+            (λ (w : Own R every (close R every st) l). inl w)
             (o .grows .came l m);
       }
 
   -- the ranks after one more mark
-  one-more-ranked : (A : Marks) (a : ℕ) → RankedHeld R A → CanBeMarked R A a → RankedHeld R (mark A a)
+  one-more-ranked : (A : Marks) (a : ℕ) → RankedHeld R A → CanBeMarked R A a → RankedHeld R (A with a)
   unfolding NoClean Rests
   one-more-ranked A a h c = split (either (st .members (positive a))) (either (st .members (negative a)))
     where
       st : Ranking
       st = h .ranking
 
-      held-now : (l : ℕ) → T (st .members l) → Held R (mark A a) l
-      held-now l m = held-mono A (mark A a) (mark-⊇ A a) (h .is-held l .0 m)
+      held-now : (l : ℕ) → T (st .members l) → Held R (A with a) l
+      held-now l m = held-mono A (A with a) (with-⊇ A a) (h .is-held l .0 m)
 
-      own-atom : (l : ℕ) → atom l ≡ a → Marked (mark A a) (atom l)
-      own-atom l e = rw e (marked-itself A a)
+      own-atom : (l : ℕ) → atom l ≡ a → Marked (A with a) (atom l)
+      own-atom l e = rw e (with-itself A a)
 
       -- every literal of a marked atom is in a set that has the two of a
-      based : (s : Ranking) → Keeps st s → T (s .members (positive a)) → T (s .members (negative a)) → (l : ℕ) → Marked (mark A a) (atom l) → T (s .members l)
+      based : (s : Ranking) → Keeps st s → T (s .members (positive a)) → T (s .members (negative a)) → (l : ℕ) → Marked (A with a) (atom l) → T (s .members l)
       based s k p n l m =
           ⊎-elim
           (λ (e : atom l ≡ a).
           ⊎-elim (λ (x : (l ≡ positive (atom l)) × (negation l ≡ negative (atom l))). rw (x .0, e) p)
           (λ (x : (l ≡ negative (atom l)) × (negation l ≡ positive (atom l))). rw (x .0, e) n) (sign l))
           (λ (x : T (A (atom l))). k .kept l (h .is-held l .1 (from-base x)))
-          (mark-cases A a (atom l) m)
+          (with-cases A a (atom l) m)
 
       -- the literal l is new: its negation is held and not clean
-      new-literal : (l : ℕ) → atom l ≡ a → T (not (st .members l)) → HeldNotClean R A (negation l) → T (add st l .members (positive a)) → T (add st l .members (negative a)) → RankedHeld R (mark A a)
+      new-literal : (l : ℕ) → atom l ≡ a → T (not (st .members l)) → HeldNotClean R A (negation l)
+          → T (add st l .members (positive a)) → T (add st l .members (negative a)) → RankedHeld R (A with a)
       new-literal l e n hnc p q =
           close-again A a (add st l) (bounded-add st l (h .bounded))
-          (λ x m. ⊎-elim (λ (y : x ≡ l). rw y (from-base (own-atom l e))) (λ (y : T (st .members x)). held-now x y) (mark-cases (st .members) l x m))
+          (λ x m. ⊎-elim (λ (y : x ≡ l). rw y (from-base (own-atom l e))) (λ (y : T (st .members x)). held-now x y) (with-cases (st .members) l x m))
           (λ x m.
           ⊎-elim (λ (y : x ≡ l). inr (rw y (own-atom l e), rw y serves))
-          (λ (y : T (st .members x)). rests-kept A (mark A a) (mark-⊇ A a) k x y (h .rests x y)) (mark-cases (st .members) l x m))
+          (λ (y : T (st .members x)). rests-kept A (A with a) (with-⊇ A a) k x y (h .rests x y)) (with-cases (st .members) l x m))
           (based (add st l) k p q)
         where
           k : Keeps st (add st l)
@@ -126,11 +130,11 @@ module _ (R : List Rule) where
           unmarked-negation : Unmarked A (atom (negation l))
           unmarked-negation = rw (atom-negation l, e) (c .unmarked)
 
-          from-own : Own R every st (negation l) → Serves R (mark A a) (add st l) l
+          from-own : Own R every st (negation l) → Serves R (A with a) (add st l) l
           from-own w =
               ⊎-elim (λ (f : w .0 .groups ≡ []). absurd (hnc .1 (by-fact (w .0) (w .1 .0) (w .1 .1) unmarked-negation f)))
               (λ (g : (β : List ℕ) × (β ∈ w .0 .groups) × ((ι : ℕ) → ι ∈ β → T (st .members ι) × (st .rank ι < st .rank (negation l)))).
-              serves-kept A (mark A a) (mark-⊇ A a) k l (record {
+              serves-kept A (A with a) (with-⊇ A a) k l (record {
                 rule = w .0;
                 is-rule = w .1;
                 no-clean = (
@@ -144,7 +148,7 @@ module _ (R : List Rule) where
               }))
               (w .3)
 
-          serves : Serves R (mark A a) (add st l) l
+          serves : Serves R (A with a) (add st l) l
           serves =
               ⊎-elim (λ (w : Own R every st (negation l)). from-own w)
               (λ (v : Marked A (atom (negation l)) × Serves R A st (negation l)). absurd (T-not (A (atom (negation l))) unmarked-negation (v .0)))
@@ -153,24 +157,26 @@ module _ (R : List Rule) where
       not-held : (l : ℕ) → T (not (st .members l)) → Held R A l → ⊥
       not-held l n k = T-not (st .members l) n (h .is-held l .1 k)
 
-      split : T (st .members (positive a)) ⊎ T (not (st .members (positive a))) → T (st .members (negative a)) ⊎ T (not (st .members (negative a))) → RankedHeld R (mark A a)
+      split : T (st .members (positive a)) ⊎ T (not (st .members (positive a)))
+          → T (st .members (negative a)) ⊎ T (not (st .members (negative a))) → RankedHeld R (A with a)
       split (inl p) (inl n) =
           let same : Keeps st st = record { kept = λ l m. m; same-rank = λ l m. refl } in
-          close-again A a st (h .bounded) held-now (λ l m. rests-kept A (mark A a) (mark-⊇ A a) same l m (h .rests l m)) (based st same p n)
+          close-again A a st (h .bounded) held-now (λ l m. rests-kept A (A with a) (with-⊇ A a) same l m (h .rests l m)) (based st same p n)
       split (inl p) (inr n) =
           new-literal (negative a) (atom-negative a) n
           (rw (negation-negative a)
           (⊎-elim (λ (x : Held R A (positive a) × Held R A (negative a)). absurd (not-held (negative a) n (x .1)))
           (⊎-elim (λ (x : HeldNotClean R A (positive a)). x) (λ (x : HeldNotClean R A (negative a)). absurd (not-held (negative a) n (x .0)))) (c .because)))
-          (mark-⊇ (st .members) (negative a) (positive a) p) (marked-itself (st .members) (negative a))
+          (with-⊇ (st .members) (negative a) (positive a) p) (with-itself (st .members) (negative a))
       split (inr p) n =
           new-literal (positive a) (atom-positive a) p
           (rw (negation-positive a)
           (⊎-elim (λ (x : Held R A (positive a) × Held R A (negative a)). absurd (not-held (positive a) p (x .0)))
           (⊎-elim (λ (x : HeldNotClean R A (positive a)). absurd (not-held (positive a) p (x .0))) (λ (x : HeldNotClean R A (negative a)). x)) (c .because)))
-          (marked-itself (st .members) (positive a)) (mark-⊇ (st .members) (positive a) (negative a) (other (c .because)))
+          (with-itself (st .members) (positive a)) (with-⊇ (st .members) (positive a) (negative a) (other (c .because)))
         where
-          other : (Held R A (positive a) × Held R A (negative a)) ⊎ (HeldNotClean R A (positive a) ⊎ HeldNotClean R A (negative a)) → T (st .members (negative a))
+          other : (Held R A (positive a) × Held R A (negative a)) ⊎ (HeldNotClean R A (positive a) ⊎ HeldNotClean R A (negative a))
+              → T (st .members (negative a))
           other (inl x) = absurd (not-held (positive a) p (x .0))
           other (inr (inl x)) = absurd (not-held (positive a) p (x .0))
           other (inr (inr x)) = h .is-held (negative a) .1 (x .0)
@@ -288,9 +294,11 @@ module _ (R : List Rule) (one : OneRulePerHead R) (A : Marks) (settled : Settled
       )
 
   -- rule ρ of a marked k carries a held group before k: condition 8, unless its body is t
-  rests-on : (ρ : Rule) (k : ℕ) → IsRuleOf R k ρ → Marked A (atom k) → (β : List ℕ) → β ∈ ρ .groups → ((ι : ℕ) → ι ∈ β → T (st .members ι) × (st .rank ι < st .rank k))
+  rests-on : (ρ : Rule) (k : ℕ) → IsRuleOf R k ρ → Marked A (atom k) → (β : List ℕ)
+      → β ∈ ρ .groups → ((ι : ℕ) → ι ∈ β → T (st .members ι) × (st .rank ι < st .rank k))
       → (bodyValue I (ρ .groups) ≡ 𝐭) ⊎ ((bodyValue I (ρ .groups) ≡ 𝐢) × Carries I (λ x y. T (before x y)) ρ 𝐢)
-  rests-on ρ k r mk β b all = split (leb 3 (code (bodyValue I (ρ .groups)))) (λ t. leb→le 3 (code (bodyValue I (ρ .groups))) t) (λ t. nleb→lt 3 (code (bodyValue I (ρ .groups))) t)
+  rests-on ρ k r mk β b all =
+      split (leb 3 (code (bodyValue I (ρ .groups)))) (λ t. leb→le 3 (code (bodyValue I (ρ .groups))) t) (λ t. nleb→lt 3 (code (bodyValue I (ρ .groups))) t)
     where
       split : (c : Bool) → (T c → 3 ≤ code (bodyValue I (ρ .groups))) → (T (not c) → code (bodyValue I (ρ .groups)) < 3)
           → (bodyValue I (ρ .groups) ≡ 𝐭) ⊎ ((bodyValue I (ρ .groups) ≡ 𝐢) × Carries I (λ x y. T (before x y)) ρ 𝐢)
@@ -321,7 +329,8 @@ module _ (R : List Rule) (one : OneRulePerHead R) (A : Marks) (settled : Settled
       marked : Marked A (atom l)
       marked = 𝐢→marked R A I is-held settled l m e
 
-      go : Own R every st l ⊎ (Marked A (atom l) × Serves R A st l) → SupportsRuleOf R I (λ x y. T (before x y)) l ⊎ RestsOnInconsistent R I (λ x y. T (before x y)) l
+      go : Own R every st l ⊎ (Marked A (atom l) × Serves R A st l)
+          → SupportsRuleOf R I (λ x y. T (before x y)) l ⊎ RestsOnInconsistent R I (λ x y. T (before x y)) l
       go (inl o) =
           ⊎-elim (λ (f : o .0 .groups ≡ []). inl (o .0, o .1, inl f))
           (λ (g : (β : List ℕ) × (β ∈ o .0 .groups) × ((ι : ℕ) → ι ∈ β → T (st .members ι) × (st .rank ι < st .rank l))).
@@ -353,5 +362,6 @@ module _ (R : List Rule) (one : OneRulePerHead R) (A : Marks) (settled : Settled
     },
   )
 
-pub settled-supported : (R : List Rule) → OneRulePerHead R → {n : ℕ} {A : Marks} → Marking R n A → Settled R A → (I : Interpretation) → IsHeld R A I → WellSupportedByTest R I
+pub settled-supported : (R : List Rule) → OneRulePerHead R → {n : ℕ} {A : Marks} → Marking R n A
+    → Settled R A → (I : Interpretation) → IsHeld R A I → WellSupportedByTest R I
 settled-supported R one {A = A} k s I is-held = ranked-supported R one A s I is-held (marking-ranked R k)

@@ -5,9 +5,10 @@ use mathlib.Core.Logic.{_↔_}
 use mathlib.Core.Path.{_≡_}
 use Prim.Native.Nat.{ℕ, _<_}
 use Rattle.paper.specs.Table1.{𝐢, not′}
-use Rattle.paper.specs.Rules.{Rule, OneRulePerHead, HeadsBelow, positive, negation, _∈_}
-use Rattle.paper.specs.Definitions.{Interpretation, value, bodyValue, Model, WellSupported, SmallestWellSupported, Smallest, _⊆_}
-use Rattle.paper.specs.Marking.{Marks, Marked, Unmarked, CanBeMarked, Settled, Marking, noMarks, count, Pass, Passes, IsHeld, inconsistent, settledValue}
+use Rattle.paper.specs.Rules.{Rule, OneRulePerHead, HeadsBelow, positive, negation}
+use Rattle.sets.specs.Sets.{_∈_, _⊆_, count}
+use Rattle.paper.specs.Definitions.{Interpretation, value, bodyValue, Model, SmallestWellSupported, Smallest}
+use Rattle.paper.specs.Marking.{Marks, Marked, Unmarked, CanBeMarked, Settled, Marking, Pass, Passes, IsHeld, inconsistent, settledValue}
 use Rattle.paper.specs.Examples.{Example, Says, examples}
 use Rattle.paper.proofs.Values.{𝐢-implies, value-negation}
 use Rattle.paper.proofs.Leasts.{can-be-marked-mono}
@@ -22,7 +23,8 @@ pub settled-is-a-model : (R : List Rule) → OneRulePerHead R → (A : Marks) �
 settled-is-a-model R one A s I h = rooms-settled.settled-model R A I h s one
 
 -- .. well-supported, and contained in every well-supported model, for orders of any kind
-pub settled-is-smallest : (R : List Rule) → OneRulePerHead R → {n : ℕ} {A : Marks} → Marking R n A → Settled R A → (I : Interpretation) → IsHeld R A I → SmallestWellSupported R I
+pub settled-is-smallest : (R : List Rule) → OneRulePerHead R → {n : ℕ} {A : Marks} → Marking R n A
+    → Settled R A → (I : Interpretation) → IsHeld R A I → SmallestWellSupported R I
 settled-is-smallest R one k s I h = rooms-smallest.settled-smallest-any R one k s I h
 
 -- the form that contracts cite, where the order is a test, singles out the same model
@@ -30,7 +32,8 @@ pub smallest-by-test : (R : List Rule) → OneRulePerHead R → (I : Interpretat
 smallest-by-test R one I = rooms-smallest.smallest↔any R one I
 
 -- such a marking exists, and is found by computation
-pub settled-marking-exists : (R : List Rule) (N : ℕ) → HeadsBelow N R → (n : ℕ) × Marking R n (rooms-existence.settledMarks R N) × Settled R (rooms-existence.settledMarks R N)
+pub settled-marking-exists : (R : List Rule) (N : ℕ) → HeadsBelow N R
+    → (n : ℕ) × Marking R n (rooms-existence.settledMarks R N) × Settled R (rooms-existence.settledMarks R N)
 settled-marking-exists R N below = rooms-existence.settledMarks-is R N below
 
 -- the smallest well-supported model exists ..
@@ -51,7 +54,8 @@ pub marks-made : (R : List Rule) → OneRulePerHead R → {n : ℕ} {A : Marks} 
 marks-made R one k s I i N below = rooms-smallest.marks-made-are-inconsistent R one k s I i N below
 
 -- and each is one of them
-pub marks-are-the-inconsistent-atoms : (R : List Rule) → OneRulePerHead R → {n : ℕ} {A : Marks} → Marking R n A → Settled R A → (I : Interpretation) → Smallest R I
+pub marks-are-the-inconsistent-atoms : (R : List Rule) → OneRulePerHead R
+    → {n : ℕ} {A : Marks} → Marking R n A → Settled R A → (I : Interpretation) → Smallest R I
     → (a : ℕ) → A a ≡ inconsistent I a
 marks-are-the-inconsistent-atoms R one k s I i a = rooms-smallest.marks-are-inconsistent R one k s I i a
 
@@ -60,7 +64,8 @@ pub can-be-marked-is-monotone : (R : List Rule) (A B : Marks) → A ⊆ B → (a
 can-be-marked-is-monotone R A B s a u c = can-be-marked-mono A B s a u c
 
 -- until settled, a pass over all atoms in any order marks at least one ..
-pub pass-marks-at-least-one : (R : List Rule) (N : ℕ) → HeadsBelow N R → (A B : Marks) (l : List ℕ) → ((a : ℕ) → a < N → a ∈ l) → (Settled R A → ⊥) → Pass R A l B
+pub pass-marks-at-least-one : (R : List Rule) (N : ℕ) → HeadsBelow N R
+    → (A B : Marks) (l : List ℕ) → ((a : ℕ) → a < N → a ∈ l) → (Settled R A → ⊥) → Pass R A l B
     → (a : ℕ) × CanBeMarked R A a × Marked B a
 pass-marks-at-least-one R N below A B l all n p = rooms-existence.pass-marks-one R N below A B l all n p
 
@@ -78,7 +83,8 @@ pub settled-values : (R : List Rule) → OneRulePerHead R → {n : ℕ} {A : Mar
 settled-values R one k s I i H h a = rooms-smallest.settledValue-is-smallest R one k s I i H h a
 
 -- for a settled marking that no picks could have made it is the value in the held literals, and demand 2 is not claimed
-pub settled-values-of-any-marks : (R : List Rule) (A : Marks) → Settled R A → (H : Interpretation) → IsHeld R A H → (a : ℕ) → settledValue A H a ≡ value H (positive a)
+pub settled-values-of-any-marks : (R : List Rule) (A : Marks) → Settled R A
+    → (H : Interpretation) → IsHeld R A H → (a : ℕ) → settledValue A H a ≡ value H (positive a)
 settled-values-of-any-marks R A s H h a = rooms-settled.settledValue-is R A H h s a
 
 -- 4. P1 to P12
@@ -86,7 +92,8 @@ pub examples-say : (e : Example) → e ∈ examples → Says e
 examples-say = rooms-examples.all-say
 
 -- "p: a" with a i makes p i, not t: in a model the head of an i body is i
-pub inconsistent-body-makes-head-inconsistent : (R : List Rule) (I : Interpretation) → Model R I → (ρ : Rule) → ρ ∈ R → bodyValue I (ρ .groups) ≡ 𝐢 → value I (ρ .head) ≡ 𝐢
+pub inconsistent-body-makes-head-inconsistent : (R : List Rule) (I : Interpretation)
+    → Model R I → (ρ : Rule) → ρ ∈ R → bodyValue I (ρ .groups) ≡ 𝐢 → value I (ρ .head) ≡ 𝐢
 inconsistent-body-makes-head-inconsistent R I m ρ k e = 𝐢-implies (value I (ρ .head)) (rw e at (m ρ k))
 
 -- the value of a negation is Table 1's NOT

@@ -1,22 +1,16 @@
 -- Laws of Definition 5's values: groups are minima, bodies maxima. Assumes nothing.
 use mathlib.Core.Bool.{Bool, true, false, not, cond}
 use mathlib.Core.List.{List, [], _∷_, List·Memᴰ·head, List·Memᴰ·tail, List·Memᴰ·cases-cons, List·Memᴰ·not-nil}
-use mathlib.Core.Logic.{_⊎_, inl, inr, ⊎-elim, _↔_}
-use mathlib.Core.Path.{_≡_, refl, subst, subst⁻¹, sym, ap, _∙_}
-use Prim.Native.Nat.{ℕ, zero, suc, _≤_, _<_, min, max}
+use mathlib.Core.Logic.{_⊎_, inl, inr, ⊎-elim}
+use mathlib.Core.Path.{_≡_, refl, ap, _∙_}
+use Prim.Native.Nat.{ℕ, _≤_, _<_, min, max}
 use native.Mathlib.Omega.{arith}
 use lib.Dec.{T, leb, leb→le, nleb→lt}
 use Rattle.paper.specs.Table1.{Value, 𝐟, 𝐮, 𝐢, 𝐭, code, _and_, _or_, not′, _implies_}
-use Rattle.paper.specs.Rules.{negation, _∈_}
+use Rattle.paper.specs.Rules.{negation}
+use Rattle.sets.specs.Sets.{_∈_}
 use Rattle.paper.specs.Definitions.{Interpretation, byMembership, value, groupValue, anyValue, bodyValue}
-use Rattle.paper.proofs.Tests.{T?, T→true, not→false}
-
--- a value is at most t, and told by its code
-pub code≤3 : (v : Value) → code v ≤ 3
-code≤3 𝐟 = omega arith
-code≤3 𝐮 = omega arith
-code≤3 𝐢 = omega arith
-code≤3 𝐭 = omega arith
+use Rattle.sets.proofs.Tests.{T?, T→true, not→false}
 
 pub 3≤code→𝐭 : (v : Value) → 3 ≤ code v → v ≡ 𝐭
 3≤code→𝐭 𝐟 h = absurd (omega arith)

@@ -1,4 +1,4 @@
--- Definitions 5, 6, 8 and 9 of the paper, as printed.
+-- Believed: Definitions 5, 6, 8 and 9 of the paper, as printed; the smallest well-supported model.
 use mathlib.Core.List.{List, [], _∷_}
 use mathlib.Core.Bool.{Bool, true, false}
 use mathlib.Core.Logic.{_⊎_}
@@ -6,7 +6,8 @@ use mathlib.Core.Path.{_≡_}
 use Prim.Native.Nat.{ℕ}
 use lib.Dec.{T}
 use Rattle.paper.specs.Table1.{Value, 𝐟, 𝐮, 𝐢, 𝐭, _and_, _or_, _implies_}
-use Rattle.paper.specs.Rules.{Rule, negation, IsRuleOf, _∈_}
+use Rattle.paper.specs.Rules.{Rule, negation, IsRuleOf}
+use Rattle.sets.specs.Sets.{_∈_, _⊆_}
 
 -- Definition 5: an interpretation is any set of literals
 abbrev pub Interpretation : Type 0
@@ -75,11 +76,6 @@ pub record WellSupportedBy (R : List Rule) (I : Interpretation) (before : ℕ �
 -- Definition 9: there is a strict partial order, of any kind
 abbrev pub WellSupported : List Rule → Interpretation → Type 1
 WellSupported R I = (before : ℕ → ℕ → Type 0) × WellSupportedBy R I before
-
-infix 20 _⊆_
--- containment of sets of literals, or of atoms
-abbrev pub _⊆_ : (ℕ → Bool) → (ℕ → Bool) → Type 0
-I ⊆ J = (l : ℕ) → T (I l) → T (J l)
 
 -- a well-supported model that is contained in every other
 pub record SmallestWellSupported (R : List Rule) (I : Interpretation) : Type 1 where

@@ -1,11 +1,12 @@
--- Document 01, "Known examples": P1 to P12 as one list under one statement.
+-- Believed: the known examples of document 01, P1 to P12, as one list under one statement.
 use mathlib.Core.Bool.{not, _&&_}
 use mathlib.Core.List.{List, [], _∷_}
 use mathlib.Core.Path.{_≡_}
 use Prim.Native.Nat.{ℕ, zero, suc}
 use lib.Dec.{ltb, eqb}
 use Rattle.paper.specs.Table1.{Value, 𝐟, 𝐮, 𝐢, 𝐭}
-use Rattle.paper.specs.Rules.{Rule, OneRulePerHead, positive, negative, _∈_}
+use Rattle.paper.specs.Rules.{Rule, OneRulePerHead, positive, negative}
+use Rattle.sets.specs.Sets.{_∈_}
 use Rattle.paper.specs.Definitions.{Interpretation, value, Model, WellSupported, SmallestWellSupported}
 use Rattle.paper.specs.Marking.{Marks, Marking, Settled}
 
@@ -131,7 +132,8 @@ P12 =
     record {
       atoms = 6;
       rules =
-          positive 0 :- ((positive 1 ∷ []) ∷ (positive 2 ∷ []) ∷ []) ∷ positive 2 :- ((positive 0 ∷ []) ∷ []) ∷ negative 1 :- ((positive 2 ∷ []) ∷ []) ∷ positive 1 :- []
+          positive 0 :- ((positive 1 ∷ []) ∷ (positive 2 ∷ []) ∷ []) ∷ positive 2 :- ((positive 0 ∷ []) ∷ [])
+          ∷ negative 1 :- ((positive 2 ∷ []) ∷ []) ∷ positive 1 :- []
           ∷ positive 3 :- ((positive 4 ∷ []) ∷ (positive 5 ∷ []) ∷ []) ∷ negative 4 :- ((negative 2 ∷ []) ∷ []) ∷ positive 4 :- [] ∷ positive 5 :- [] ∷ [];
       values = 𝐢 ∷ 𝐢 ∷ 𝐢 ∷ 𝐭 ∷ 𝐢 ∷ 𝐭 ∷ [];
       made = 4;

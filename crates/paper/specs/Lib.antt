@@ -4,3 +4,4 @@ pub mod Rules
 pub mod Definitions
 pub mod Marking
 pub mod Examples
+pub mod Fires

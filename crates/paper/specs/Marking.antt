@@ -1,12 +1,13 @@
--- Document 01, "Model wanted": Held, Clean, can be marked, settled, and the values of a settled marking.
+-- Believed: Held, Clean, can be marked, settled, and the values of a settled marking.
 use mathlib.Core.List.{List, [], _∷_}
-use mathlib.Core.Bool.{Bool, true, false, not, cond}
+use mathlib.Core.Bool.{Bool, true, false, not}
 use mathlib.Core.Logic.{_⊎_, _↔_}
 use mathlib.Core.Path.{_≡_}
-use Prim.Native.Nat.{ℕ, zero, suc, _<_}
-use lib.Dec.{T, eqb}
+use Prim.Native.Nat.{ℕ, suc, _<_}
+use lib.Dec.{T}
+use Rattle.sets.specs.Sets.{_∈_, _with_}
 use Rattle.paper.specs.Table1.{Value, 𝐟, 𝐮, 𝐢, 𝐭}
-use Rattle.paper.specs.Rules.{Rule, atom, positive, negative, _∈_}
+use Rattle.paper.specs.Rules.{Rule, atom, positive, negative}
 use Rattle.paper.specs.Definitions.{Interpretation, value}
 
 -- a set of marked atoms
@@ -49,14 +50,10 @@ Settled R A = (a : ℕ) → CanBeMarked R A a → ⊥
 abbrev pub noMarks : Marks
 noMarks a = false
 
--- the marks with a's besides
-abbrev pub mark : Marks → ℕ → Marks
-mark A a b = cond (eqb b a) true (A b)
-
 -- n marks made from none, one at a time, each of an atom that could be marked then
 pub data Marking (R : List Rule) : ℕ → Marks → Type 0 where
   none : Marking R 0 noMarks
-  one-more : {n : ℕ} {A : Marks} (a : ℕ) → Marking R n A → CanBeMarked R A a → Marking R (suc n) (mark A a)
+  one-more : {n : ℕ} {A : Marks} (a : ℕ) → Marking R n A → CanBeMarked R A a → Marking R (suc n) (A with a)
 
 -- I is the set of the held literals
 abbrev pub IsHeld : List Rule → Marks → Interpretation → Type 0
@@ -77,15 +74,10 @@ byMarkAndHeld false false false = 𝐮
 abbrev pub settledValue : Marks → Interpretation → ℕ → Value
 settledValue A I a = byMarkAndHeld (A a) (I (positive a)) (I (negative a))
 
--- how many of the first N are in a set of atoms
-unfoldable pub count : ℕ → (ℕ → Bool) → ℕ
-count zero S = 0
-count (suc n) S = cond (S n) (suc (count n S)) (count n S)
-
 -- going through atoms in any order: each is marked if it can be marked then, and left alone otherwise
 pub data Pass (R : List Rule) : Marks → List ℕ → Marks → Type 0 where
   end : {A : Marks} → Pass R A [] A
-  marks : {A B : Marks} {a : ℕ} {rest : List ℕ} → CanBeMarked R A a → Pass R (mark A a) rest B → Pass R A (a ∷ rest) B
+  marks : {A B : Marks} {a : ℕ} {rest : List ℕ} → CanBeMarked R A a → Pass R (A with a) rest B → Pass R A (a ∷ rest) B
   leaves : {A B : Marks} {a : ℕ} {rest : List ℕ} → (CanBeMarked R A a → ⊥) → Pass R A rest B → Pass R A (a ∷ rest) B
 
 -- k passes, each over all N atoms in an order of its own (with repeats, if it likes)

@@ -1,12 +1,8 @@
--- Literals, rules and sets of rules: section 3.1 of the paper, with document 01's literal codes.
-use mathlib.Core.List.{List, List·Memᴰ}
+-- Believed: literals, rules and sets of rules: section 3.1 of the paper, with document 01's literal codes.
+use mathlib.Core.List.{List}
 use mathlib.Core.Path.{_≡_}
 use Prim.Native.Nat.{ℕ, _+_, _-_, _*_, _/_, _%_, _<_}
-
-infix 20 _∈_
--- membership in a list
-abbrev pub _∈_ : {A : Type 0} → A → List A → Type 0
-x ∈ l = List·Memᴰ x l
+use Rattle.sets.specs.Sets.{_∈_}
 
 -- literal code: 2 × atom, plus 1 for the negation
 abbrev pub positive : ℕ → ℕ

@@ -1,5 +1,5 @@
--- Table 1 of the paper, in the four rows of document 01 ("Values and truth tables").
-use mathlib.Core.Bool.{Bool, cond}
+-- Believed: Table 1 of the paper, in the four rows of document 01: values, codes, AND, OR, NOT, implication.
+use mathlib.Core.Bool.{cond}
 use Prim.Native.Nat.{ℕ}
 use lib.Dec.{leb}
 

@@ -1,42 +1,43 @@
 -- Demand 3 about the entries' own promises: the order of work never matters. Assumes nothing.
-use mathlib.Core.Bool.{Bool, true, false, not}
 use mathlib.Core.List.{List}
 use mathlib.Core.Logic.{_↔_, _≢_}
 use mathlib.Core.Path.{_≡_, refl, sym, ap, ap₂, _∙_, fun-ext}
-use Prim.Native.Nat.{ℕ, _≤_, _<_, _+_}
+use Prim.Native.Nat.{ℕ, _≤_, _<_}
 use native.Mathlib.Omega.{arith}
-use lib.Dec.{T, T-not}
+use lib.Dec.{T-not}
 use lib.ListN.{length}
 use Rattle.refusal.specs.declared.Refusal.{Refusal}
 use Rattle.refusal.specs.Numbers.{not-settled}
-use Rattle.words.specs.declared.Checked.{Checked}
-use Rattle.words.specs.declared.Checked.the-variants.{Accepted, Refused}
+use Rattle.refusal.specs.declared.Checked.{Checked}
+use Rattle.refusal.specs.declared.Checked.the-variants.{Accepted}
 use Rattle.words.specs.Check.{AcceptedTable}
 use Rattle.words.specs.Layout.{rulesOf}
-use Rattle.words.proofs.Laws.{refused≢accepted, accepted-heads, accepted-atoms, accepted-one-rule, accepted-length}
-use Rattle.paper.specs.Rules.{positive, _∈_}
+use Rattle.refusal.proofs.Laws.{refused≢accepted}
+use Rattle.words.proofs.Laws.{accepted-heads, accepted-one-rule}
+use Rattle.paper.specs.Rules.{positive}
+use Rattle.sets.specs.Sets.{_∈_, count}
 use Rattle.paper.specs.Definitions.{Interpretation, value, Smallest}
-use Rattle.paper.specs.Marking.{Marks, Marked, CanBeMarked, Settled, inconsistent, count, settledValue}
+use Rattle.paper.specs.Marking.{Marked, CanBeMarked, Settled, inconsistent}
 use Rattle.paper.proofs.Existence.{pass-marks-one, passes-settle}
 use Rattle.paper.proofs.Order.{can-be-marked-below, settled-equal}
 use Rattle.paper.proofs.Smallest.{settledValue-is-smallest, marks-are-inconsistent}
-use Rattle.paper.proofs.Counting.{count-≡}
-use Rattle.bits.specs.Sets.{member, putIn}
+use Rattle.sets.proofs.Counting.{count-≡}
 use Rattle.bits.proofs.Laws.{member-putIn-other, same-members}
-use Rattle.marking.specs.Faults.{recordFault, pickFault, reportFault}
-use Rattle.marking.proofs.Accepted.{good-record}
-use Rattle.picks.specs.declared.MarkRecord.{MarkRecord}
+use Rattle.records.specs.Records.{marksOf, noMarksFor, withMarks, CountAllows}
+use Rattle.picks.specs.Faults.{pickFault}
+use Rattle.records.specs.declared.MarkRecord.{MarkRecord}
 use Rattle.picks.specs.declared.PickAnswer.{PickAnswer}
-use Rattle.picks.specs.declared.SettledAnswer.{SettledAnswer}
-use Rattle.picks.specs.declared.ReportAnswer.{ReportAnswer}
-use Rattle.picks.specs.declared.CountAnswer.{CountAnswer}
-use Rattle.picks.specs.Entries.{marksOf, noMarksFor, withMarks, PickAllows, SettledAllows, ReportAllows, CountAllows, written}
+use Rattle.refusal.specs.declared.Decided.{Decided}
+use Rattle.refusal.specs.declared.Numbered.{Numbered}
+use Rattle.picks.specs.Entries.{PickAllows, SettledAllows, ReportAllows}
+use Rattle.values.specs.Values.{written}
 use Rattle.picks.specs.Traces.{Picks, PickPasses}
 use Rattle.picks.proofs.Tracing.{RecordFor, fresh-for, pick-not-refused, picks-pass, picks-marking, passes-passes}
 use Rattle.picks.proofs.Faultless.{settled-not-refused, only-before-settled, reports, counts}
 
 -- a pick touches no other atom's mark, and not N
-pub only-its-own-atom : {r r′ : MarkRecord} {t : List ℕ} {a : ℕ} {answer : PickAnswer} → PickAllows r t a answer r′ → (r′ .n ≡ r .n) × ((b : ℕ) → b ≢ a → marksOf r′ b ≡ marksOf r b)
+pub only-its-own-atom : {r r′ : MarkRecord} {t : List ℕ} {a : ℕ} {answer : PickAnswer}
+    → PickAllows r t a answer r′ → (r′ .n ≡ r .n) × ((b : ℕ) → b ≢ a → marksOf r′ b ≡ marksOf r b)
 only-its-own-atom (PickAllows.refused e) = (refl, λ b n. refl)
 only-its-own-atom (PickAllows.already-marked e m) = (refl, λ b n. refl)
 only-its-own-atom {r} {a = a} (PickAllows.marked e c) = (refl, λ b n. member-putIn-other (r .marks) a b n)
@@ -44,8 +45,9 @@ only-its-own-atom (PickAllows.cannot-be-marked-now e u n) = (refl, λ b n′. re
 
 -- a pick answers `marked` exactly when its atom can be marked, if it is not refused there
 marks-exactly-when-it-may : {r r′ : MarkRecord} {t : List ℕ} {a : ℕ} {answer : PickAnswer} → PickAllows r t a answer r′
-    → (CanBeMarked (rulesOf t) (marksOf r) a → pickFault (r .n) (marksOf r) t a ≡ Accepted) → (answer ≡ PickAnswer.Marked) ↔ CanBeMarked (rulesOf t) (marksOf r) a
-marks-exactly-when-it-may (PickAllows.refused {f} e) h = ((λ p. let z : _≡_ {A = ℕ} 0 1 = cc in absurd (omega arith)), λ c. absurd (refused≢accepted f (sym e ∙ h c)))
+    → (CanBeMarked (rulesOf t) (marksOf r) a → pickFault r t a ≡ Accepted) → (answer ≡ PickAnswer.Marked) ↔ CanBeMarked (rulesOf t) (marksOf r) a
+marks-exactly-when-it-may (PickAllows.refused {f} e) h =
+    ((λ p. let z : _≡_ {A = ℕ} 0 1 = cc in absurd (omega arith)), λ c. absurd (refused≢accepted f (sym e ∙ h c)))
 marks-exactly-when-it-may {r} {a = a} (PickAllows.already-marked e m) h =
     ((λ p. let z : _≡_ {A = ℕ} 0 1 = cc in absurd (omega arith)), λ c. absurd (T-not (marksOf r a) (c .unmarked) m))
 marks-exactly-when-it-may (PickAllows.marked e c) h = ((λ p. c), λ d. refl)
@@ -56,48 +58,54 @@ module _ (N : ℕ) (t : List ℕ) (accepted : AcceptedTable N t) {l : List ℕ} 
   reached = picks-marking N t accepted picks .0
 
   -- a pick marks its own atom exactly when it may
-  pub marks-when-it-may : (a : ℕ) {answer : PickAnswer} {r′ : MarkRecord} → PickAllows r t a answer r′ → (answer ≡ PickAnswer.Marked) ↔ CanBeMarked (rulesOf t) (marksOf r) a
+  pub marks-when-it-may : (a : ℕ) {answer : PickAnswer} {r′ : MarkRecord} → PickAllows r t a answer r′
+      → (answer ≡ PickAnswer.Marked) ↔ CanBeMarked (rulesOf t) (marksOf r) a
   marks-when-it-may a o =
       marks-exactly-when-it-may o
       (λ c. pick-not-refused N t accepted r reached a (can-be-marked-below (rulesOf t) N (accepted-heads N t accepted) (marksOf r) a c))
 
   -- nothing is refused that a caller could mean
-  pub pick-never-refused : (a : ℕ) → a < N → {answer : PickAnswer} {r′ : MarkRecord} → PickAllows r t a answer r′ → (f : Refusal) → answer ≡ PickAnswer.Refused f → ⊥
+  pub pick-never-refused : (a : ℕ) → a < N → {answer : PickAnswer} {r′ : MarkRecord}
+      → PickAllows r t a answer r′ → (f : Refusal) → answer ≡ PickAnswer.Refused f → ⊥
   pick-never-refused a lt (PickAllows.refused {f} e) g same = refused≢accepted f (sym e ∙ pick-not-refused N t accepted r reached a lt)
   pick-never-refused a lt (PickAllows.already-marked e m) g same = absurd (let z : _≡_ {A = ℕ} 0 1 = cc in omega arith)
   pick-never-refused a lt (PickAllows.marked e c) g same = absurd (let z : _≡_ {A = ℕ} 0 1 = cc in omega arith)
   pick-never-refused a lt (PickAllows.cannot-be-marked-now e u n) g same = absurd (let z : _≡_ {A = ℕ} 0 1 = cc in omega arith)
 
-  pub settled-never-refused : {answer : SettledAnswer} → SettledAllows r t answer → (f : Refusal) → answer ≡ SettledAnswer.Refused f → ⊥
+  pub settled-never-refused : {answer : Decided} → SettledAllows r t answer → (f : Refusal) → answer ≡ Decided.Refused f → ⊥
   settled-never-refused o = settled-not-refused N t accepted r reached o
 
-  pub report-refused-before-settled : (room : List ℕ) → N ≤ length room → {answer : ReportAnswer} {room′ : List ℕ} → ReportAllows r t room answer room′
-      → (f : Refusal) → answer ≡ ReportAnswer.Refused f → (f ≡ not-settled) × (Settled (rulesOf t) (marksOf r) → ⊥)
+  pub report-refused-before-settled : (room : List ℕ) → N ≤ length room → {answer : Checked} {room′ : List ℕ} → ReportAllows r t room answer room′
+      → (f : Refusal) → answer ≡ Checked.Refused f → (f ≡ not-settled) × (Settled (rulesOf t) (marksOf r) → ⊥)
   report-refused-before-settled room fits o = only-before-settled N t accepted r reached room fits o
 
-  pub count-never-refused : {answer : CountAnswer} → CountAllows r answer → answer ≡ CountAnswer.Marks (count 512 (marksOf r))
+  pub count-never-refused : {answer : Numbered} → CountAllows r answer → answer ≡ Numbered.Number (count 512 (marksOf r))
   count-never-refused o = counts N t accepted r reached o
 
   -- as soon as no atom can be marked, the report's values are those of the smallest well-supported model
   pub report-after-picks : Settled (rulesOf t) (marksOf r) → (I : Interpretation) → Smallest (rulesOf t) I → (room : List ℕ) → N ≤ length room
-      → {answer : ReportAnswer} {room′ : List ℕ} → ReportAllows r t room answer room′ → (answer ≡ ReportAnswer.Reported) × (room′ ≡ written (λ a. value I (positive a)) N room)
+      → {answer : Checked} {room′ : List ℕ} → ReportAllows r t room answer room′
+      → (answer ≡ Checked.Accepted) × (room′ ≡ written (λ a. value I (positive a)) N room)
   report-after-picks s I i room fits o =
       let q = picks-marking N t accepted picks in
       let w = reports N t accepted r (q .0) s room fits o in (
         w .0,
-        w .1 .2 ∙ ap (λ v. written v N room) (fun-ext (settledValue-is-smallest (rulesOf t) (accepted-one-rule N t accepted) (q .1 .1) s I i (w .1 .0) (w .1 .1))),
+        w .1 .2
+            ∙ ap (λ v. written v N room) (fun-ext (settledValue-is-smallest (rulesOf t) (accepted-one-rule N t accepted) (q .1 .1) s I i (w .1 .0) (w .1 .1))),
       )
 
   -- and the count is the number of inconsistent atoms
-  pub count-after-picks : Settled (rulesOf t) (marksOf r) → (I : Interpretation) → Smallest (rulesOf t) I → {answer : CountAnswer} → CountAllows r answer
-      → answer ≡ CountAnswer.Marks (count 512 (inconsistent I))
+  pub count-after-picks : Settled (rulesOf t) (marksOf r) → (I : Interpretation) → Smallest (rulesOf t) I → {answer : Numbered} → CountAllows r answer
+      → answer ≡ Numbered.Number (count 512 (inconsistent I))
   count-after-picks s I i o =
       let q = picks-marking N t accepted picks in
       counts N t accepted r (q .0) o
-      ∙ ap CountAnswer.Marks (count-≡ 512 (marksOf r) (inconsistent I) (λ a h. marks-are-inconsistent (rulesOf t) (accepted-one-rule N t accepted) (q .1 .1) s I i a))
+      ∙ ap Numbered.Number
+      (count-≡ 512 (marksOf r) (inconsistent I) (λ a h. marks-are-inconsistent (rulesOf t) (accepted-one-rule N t accepted) (q .1 .1) s I i a))
 
   -- until then a pass over all atoms, in any order, marks at least one
-  pub pass-marks-at-least-one : (Settled (rulesOf t) (marksOf r) → ⊥) → (order : List ℕ) → ((a : ℕ) → a < N → a ∈ order) → {r′ : MarkRecord} → Picks t r order r′
+  pub pass-marks-at-least-one : (Settled (rulesOf t) (marksOf r) → ⊥) → (order : List ℕ)
+      → ((a : ℕ) → a < N → a ∈ order) → {r′ : MarkRecord} → Picks t r order r′
       → (a : ℕ) × CanBeMarked (rulesOf t) (marksOf r) a × Marked (marksOf r′) a
   pass-marks-at-least-one n order all {r′} p =
       let q = picks-marking N t accepted picks in
@@ -114,6 +122,7 @@ same-record N t accepted {r = r} {r′ = r′} picks picks′ s s′ =
     let q = picks-marking N t accepted picks in
     let q′ = picks-marking N t accepted picks′ in
     let marks : r .marks ≡ r′ .marks =
-    same-members (r .marks) (r′ .marks) (q .0 .words) (q′ .0 .words) (q .0 .eight ∙ sym (q′ .0 .eight)) (settled-equal (rulesOf t) (marksOf r) (marksOf r′) (q .1 .1) s (q′ .1 .1) s′)
+    same-members (r .marks) (r′ .marks) (q .0 .words) (q′ .0 .words) (q .0 .eight ∙ sym (q′ .0 .eight))
+    (settled-equal (rulesOf t) (marksOf r) (marksOf r′) (q .1 .1) s (q′ .1 .1) s′)
     in
     ap₂ (λ (n : ℕ) (m : List ℕ). withMarks (record { n = n; marks = m }) m) (q .0 .same-n ∙ sym (q′ .0 .same-n)) marks

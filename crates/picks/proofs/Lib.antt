@@ -1,4 +1,4 @@
-pub mod Written
+pub mod Accepted
 pub mod Tracing
 pub mod Faultless
 pub mod Demand3

@@ -1,31 +1,31 @@
 -- Picks by the entry's promise are passes of document 01's marking. Assumes nothing.
-use mathlib.Core.Bool.{Bool, true, false, not}
-use mathlib.Core.List.{List, [], _∷_}
-use mathlib.Core.Logic.{_⊎_, inl, inr, ⊎-elim, _↔_, _≢_}
-use mathlib.Core.Path.{_≡_, refl, sym, ap, _∙_, subst, subst⁻¹}
-use Prim.Native.Nat.{ℕ, zero, suc, _≤_, _<_, _*_}
+use mathlib.Core.Bool.{Bool}
+use mathlib.Core.List.{List, _∷_}
+use mathlib.Core.Logic.{⊎-elim}
+use mathlib.Core.Path.{_≡_, refl, sym, _∙_, subst, subst⁻¹}
+use Prim.Native.Nat.{ℕ, _≤_, _<_}
 use native.Mathlib.Omega.{arith}
-use native.Mathlib.Decide.{decLt}
-use lib.Dec.{T, T-not, leb}
-use lib.ListN.{length, replicate}
+use lib.Dec.{T, T-not}
+use lib.ListN.{length}
 use borrow.Author.Tests.{lt-ltb}
-use Rattle.refusal.specs.declared.Refusal.{Refusal}
-use Rattle.words.specs.declared.Checked.{Checked}
-use Rattle.words.specs.declared.Checked.the-variants.{Accepted, Refused}
-use Rattle.words.specs.Check.{AcceptedTable, orElse, asking, tableCheck}
+use Rattle.refusal.specs.declared.Checked.the-variants.{Accepted}
+use Rattle.words.specs.Check.{AcceptedTable}
 use Rattle.words.specs.Layout.{rulesOf}
-use Rattle.words.proofs.Laws.{refused≢accepted, accepted-heads, accepted-atoms, accepted-one-rule, accepted-length}
-use Rattle.paper.specs.Rules.{Rule, _∈_}
-use Rattle.paper.specs.Marking.{Marks, Marked, Unmarked, CanBeMarked, Settled, Marking, none, mark, noMarks, Pass, end, marks, leaves, Passes, no-pass, then-pass}
+use Rattle.refusal.proofs.Laws.{refused≢accepted}
+use Rattle.words.proofs.Laws.{accepted-heads, accepted-atoms}
+use Rattle.sets.specs.Sets.{_with_}
+use Rattle.paper.specs.Marking.{Marks, Marking, none, noMarks, Pass, end, marks, leaves, Passes, no-pass, then-pass}
 use Rattle.paper.proofs.Order.{can-be-marked-below, pass-marking}
-use Rattle.paper.proofs.Leasts.{mark-cases}
-use Rattle.bits.specs.Sets.{member, putIn, Words}
+use Rattle.sets.proofs.Besides.{with-cases}
+use Rattle.bits.specs.Sets.{member, putIn}
+use Rattle.bits.specs.Rows.{Words}
 use Rattle.bits.proofs.Laws.{member-putIn, length-putIn, member-of-zeros, words-of-zeros, words-putIn}
-use Rattle.marking.specs.Faults.{recordFault, pickFault, atomFault}
-use Rattle.marking.proofs.Accepted.{pick-accepted, good-record}
-use Rattle.picks.specs.declared.MarkRecord.{MarkRecord}
+use Rattle.records.specs.Records.{recordFault, marksOf, noMarksFor}
+use Rattle.picks.specs.Faults.{pickFault}
+use Rattle.records.proofs.Laws.{good-record}
+use Rattle.records.specs.declared.MarkRecord.{MarkRecord}
 use Rattle.picks.specs.declared.PickAnswer.{PickAnswer}
-use Rattle.picks.specs.Entries.{marksOf, noMarksFor, PickAllows}
+use Rattle.picks.specs.Entries.{PickAllows}
 use Rattle.picks.specs.Traces.{Picks, no-picks, then-picks, PickPasses}
 
 -- a record for N atoms: eight words of 64 bits, and marks below N
@@ -42,11 +42,16 @@ pub fresh-marks : (N : ℕ) → marksOf (noMarksFor N) ≡ noMarks
 fresh-marks N = mathlib.Core.Path.fun-ext (member-of-zeros 8)
 
 module _ (N : ℕ) (t : List ℕ) (accepted : AcceptedTable N t) where
+  -- its record has no fault
+  pub record-for-good : (r : MarkRecord) → RecordFor N r → recordFault r ≡ Accepted
+  record-for-good r g =
+      good-record r (subst⁻¹ (λ (n : ℕ). n ≤ 512) (g .same-n) (accepted-atoms N t accepted)) (λ b h m. subst⁻¹ (λ (n : ℕ). b < n) (g .same-n) (g .below b m))
+
   -- an atom below N is not refused
-  pub pick-not-refused : (r : MarkRecord) → RecordFor N r → (a : ℕ) → a < N → pickFault (r .n) (marksOf r) t a ≡ Accepted
+  pub pick-not-refused : (r : MarkRecord) → RecordFor N r → (a : ℕ) → a < N → pickFault r t a ≡ Accepted
   unfolding pickFault
   pick-not-refused r g a lt =
-      rw (g .same-n, good-record N (marksOf r) (accepted-atoms N t accepted) (λ b h m. g .below b m), accepted, lt-ltb a N lt)
+      rw (record-for-good r g, g .same-n, accepted, lt-ltb a N lt)
 
   -- one pick by the promise is one step of a pass
   step : {r r′ : MarkRecord} {a : ℕ} {answer : PickAnswer} → RecordFor N r → PickAllows r t a answer r′
@@ -62,12 +67,13 @@ module _ (N : ℕ) (t : List ℕ) (accepted : AcceptedTable N t) where
       let lt : a < N = can-be-marked-below (rulesOf t) N (accepted-heads N t accepted) (marksOf r) a c in
       let le : N ≤ 512 = accepted-atoms N t accepted in
       let len : length (r .marks) ≡ 8 = g .eight in
-      let m : member (putIn (r .marks) a) ≡ mark (marksOf r) a = member-putIn (r .marks) a (omega arith) in (
+      let m : member (putIn (r .marks) a) ≡ (marksOf r with a) = member-putIn (r .marks) a (omega arith) in (
         record {
           same-n = g .same-n;
           eight = length-putIn (r .marks) a ∙ g .eight;
           words = words-putIn (r .marks) a (g .words);
-          below = λ b h. ⊎-elim (λ (x : b ≡ a). rw x lt) (λ (x : T (marksOf r b)). g .below b x) (mark-cases (marksOf r) a b (subst (λ (A : ℕ → Bool). T (A b)) m h));
+          below = λ b h.
+              ⊎-elim (λ (x : b ≡ a). rw x lt) (λ (x : T (marksOf r b)). g .below b x) (with-cases (marksOf r) a b (subst (λ (A : ℕ → Bool). T (A b)) m h));
         },
         λ rest B p. marks c (subst (λ (A : ℕ → Bool). Pass (rulesOf t) A rest B) m p),
       )

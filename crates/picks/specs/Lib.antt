@@ -1,3 +1,3 @@
--- The entries of "Marking by picks", and lists of picks.
+pub mod Faults
 pub mod Entries
 pub mod Traces

@@ -1,9 +1,8 @@
--- Demand 3's words: lists of picks on one record, the table lent anew each time, and passes over all atoms.
+-- Believed: lists of picks on one record, the table lent anew each time, and passes over all atoms.
 use mathlib.Core.List.{List, [], _∷_}
-use mathlib.Core.Path.{_≡_}
 use Prim.Native.Nat.{ℕ, suc, _<_}
-use Rattle.paper.specs.Rules.{_∈_}
-use Rattle.picks.specs.declared.MarkRecord.{MarkRecord}
+use Rattle.sets.specs.Sets.{_∈_}
+use Rattle.records.specs.declared.MarkRecord.{MarkRecord}
 use Rattle.picks.specs.declared.PickAnswer.{PickAnswer}
 use Rattle.picks.specs.Entries.{PickAllows}
 

@@ -1,25 +1,12 @@
+use records::MarkRecord;
+use refusal::Checked;
+use refusal::Decided;
 use refusal::Refusal;
-use words::Checked;
 ghost use mathlib.Core.Path.{_≡_};
-ghost use Prim.Native.Nat.{_≤_, _<_};
+ghost use Prim.Native.Nat.{_<_};
 ghost use lib.ListN.{length};
-ghost use Rattle.paper.specs.Table1.{code};
-ghost use Rattle.paper.specs.Marking.{settledValue};
-ghost use Rattle.bits.specs.Sets.{member};
-ghost use Rattle.words.specs.Check.{AcceptedTable};
-ghost use Rattle.marking.specs.Faults.{pickFault, settledFault, reportFault};
-ghost use Rattle.picks.specs.Entries.{marksOf, FreshAllows, PickAllows, SettledAllows, ReportAllows, CountAllows, written};
-
-// N and 512 marks: atom a is bit a mod 64, lowest first, of word a div 64.
-pub struct MarkRecord {
-    pub n: u64,
-    pub marks: [u64; 8],
-}
-
-pub enum FreshAnswer {
-    Fresh,
-    Refused(Refusal),
-}
+ghost use Rattle.picks.specs.Faults.{atomFault, pickFault, settledFault, reportFault};
+ghost use Rattle.picks.specs.Entries.{PickAllows, SettledAllows, ReportAllows};
 
 pub enum PickAnswer {
     Marked,
@@ -28,58 +15,24 @@ pub enum PickAnswer {
     Refused(Refusal),
 }
 
-pub enum SettledAnswer {
-    Yes,
-    No,
-    Refused(Refusal),
-}
-
-pub enum ReportAnswer {
-    Reported,
-    Refused(Refusal),
-}
-
-pub enum CountAnswer {
-    Marks(u64),
-    Refused(Refusal),
-}
-
-// A fresh record, and whether it is one for the N that was asked.
-pub struct FreshRecord {
-    pub answer: FreshAnswer,
-    pub record: MarkRecord,
-}
-
-pub fn fresh(n: u64) -> FreshRecord
-    ensures { λ r. ⌜ FreshAllows n (r .answer) (r .record) ⌝ }
+// 16.
+fn atom_fault(n: u64, atom: u64) -> Checked
+    ensures { λ r. ⌜ r ≡ atomFault n atom ⌝ }
 {
-    if 512 < n {
-        return FreshRecord {
-            answer: FreshAnswer::Refused(Refusal {
-                number: refusal::TOO_MANY_ATOMS,
-                place: 0,
-            }),
-            record: MarkRecord {
-                n: 0,
-                marks: [0u64; 8],
-            },
-        };
-    }
-    FreshRecord {
-        answer: FreshAnswer::Fresh,
-        record: MarkRecord {
-            n,
-            marks: [0u64; 8],
-        },
+    if atom < n {
+        Checked::Accepted
+    } else {
+        refusal::refused(refusal::NO_SUCH_ATOM, 0)
     }
 }
 
-fn pick_fault(n: u64, marks: &[u64], table: &[u16], atom: u64) -> Checked
-    ensures { λ r. ⌜ r ≡ pickFault n (member (now (marks .entry))) (now (table .entry)) atom ⌝ }
+fn pick_fault(record: MarkRecord, table: &[u16], atom: u64) -> Checked
+    ensures { λ r. ⌜ r ≡ pickFault «record» (now (table .entry)) atom ⌝ }
 {
-    words::first_of(
-        marking::record_fault(n, marks),
-        words::first_of(words::check(n, table), marking::atom_fault(n, atom)),
+    let n = record.n;
+    refusal::first_of(
+        records::record_fault(record),
+        refusal::first_of(words::check(n, table), atom_fault(n, atom)),
     )
 }
 
@@ -90,15 +43,17 @@ pub struct Picked {
 }
 
 // An accepted pick: a new mark if the atom can be marked.
-fn mark_atom(n: u64, marks: [u64; 8], table: &[u16], atom: u64) -> Picked
-    requires { ⌜ pickFault n (member marks) (now table) atom ≡ Checked.Accepted ⌝ }
-    ensures { λ r. ⌜ PickAllows (record { n = n; marks = marks }) (now (table .entry)) atom (r .answer) (r .record) ⌝ }
+fn mark_atom(record: MarkRecord, table: &[u16], atom: u64) -> Picked
+    requires { ⌜ pickFault «record» (now table) atom ≡ Checked.Accepted ⌝ }
+    ensures { λ r. ⌜ PickAllows «record» (now (table .entry)) atom (r .answer) (r .record) ⌝ }
 {
+    let n = record.n;
+    let marks = record.marks;
     let a = atom as usize;
     if bits::has(&marks, a) {
         return Picked {
             answer: PickAnswer::AlreadyMarked,
-            record: MarkRecord { n, marks },
+            record,
         };
     }
     if marking::can_be_marked(table, &marks, a) {
@@ -111,7 +66,7 @@ fn mark_atom(n: u64, marks: [u64; 8], table: &[u16], atom: u64) -> Picked
     }
     Picked {
         answer: PickAnswer::CannotBeMarkedNow,
-        record: MarkRecord { n, marks },
+        record,
     }
 }
 
@@ -119,15 +74,13 @@ fn mark_atom(n: u64, marks: [u64; 8], table: &[u16], atom: u64) -> Picked
 pub fn pick_by_value(record: MarkRecord, table: &[u16], atom: u64) -> Picked
     ensures { λ r. ⌜ PickAllows «record» (now (table .entry)) atom (r .answer) (r .record) ⌝ }
 {
-    let n = record.n;
-    let marks = record.marks;
-    if let Checked::Refused(r) = pick_fault(n, &marks, table, atom) {
+    if let Checked::Refused(r) = pick_fault(record, table, atom) {
         return Picked {
             answer: PickAnswer::Refused(r),
             record,
         };
     }
-    mark_atom(n, marks, table, atom)
+    mark_atom(record, table, atom)
 }
 
 // A pick of an atom: it alters at most that atom's mark in the record it is lent.
@@ -148,104 +101,62 @@ pub fn pick_numbers(n: u64, marks: [u64; 8], table: &[u16], atom: u64) -> Picked
     Picked { answer, record }
 }
 
-fn settled_fault(n: u64, marks: &[u64], table: &[u16]) -> Checked
-    ensures { λ r. ⌜ r ≡ settledFault n (member (now (marks .entry))) (now (table .entry)) ⌝ }
+fn settled_fault(record: MarkRecord, table: &[u16]) -> Checked
+    ensures { λ r. ⌜ r ≡ settledFault «record» (now (table .entry)) ⌝ }
 {
-    words::first_of(marking::record_fault(n, marks), words::check(n, table))
+    let n = record.n;
+    refusal::first_of(records::record_fault(record), words::check(n, table))
 }
 
 // Can no atom be marked?
-pub fn settled(record: MarkRecord, table: &[u16]) -> SettledAnswer
+pub fn settled(record: MarkRecord, table: &[u16]) -> Decided
     ensures { λ r. ⌜ SettledAllows «record» (now (table .entry)) r ⌝ }
 {
+    if let Checked::Refused(r) = settled_fault(record, table) {
+        return Decided::Refused(r);
+    }
     let n = record.n;
     let marks = record.marks;
-    if let Checked::Refused(r) = settled_fault(n, &marks, table) {
-        return SettledAnswer::Refused(r);
-    }
     if marking::can_go_on(table, &marks, n as usize) {
-        return SettledAnswer::No;
+        return Decided::No;
     }
-    SettledAnswer::Yes
+    Decided::Yes
 }
 
-// The number of marks, counted from its bits.
-pub fn mark_count(record: MarkRecord) -> CountAnswer
-    ensures { λ r. ⌜ CountAllows «record» r ⌝ }
+fn report_fault(record: MarkRecord, table: &[u16], room: u64) -> Checked
+    ensures { λ r. ⌜ r ≡ reportFault «record» (now (table .entry)) room ⌝ }
 {
     let n = record.n;
-    let marks = record.marks;
-    if let Checked::Refused(r) = marking::record_fault(n, &marks) {
-        return CountAnswer::Refused(r);
-    }
-    CountAnswer::Marks(bits::count(&marks) as u64)
-}
-
-// f 0, u 1, i 2, t 3: i if marked; otherwise t if the positive literal is held, f if the negative one is, u if neither.
-pub fn value_code(marks: &[u64], held: &[u64], a: usize) -> u8
-    requires { ⌜ a < 512 ⌝ }
-    ensures { λ r. ⌜ r ≡ code (settledValue (member (now (marks .entry))) (member (now (held .entry))) a) ⌝ }
-{
-    if bits::has(marks, a) {
-        return 2;
-    }
-    if bits::has(held, 2 * a) {
-        return 3;
-    }
-    if bits::has(held, 2 * a + 1) {
-        return 0;
-    }
-    1
-}
-
-// Writes the codes of the `n` atoms' values; bytes past them are untouched.
-pub fn write_values(values: &mut [u8], marks: &[u64], held: &[u64], n: usize)
-    requires { ⌜ (n ≤ 512) × (n ≤ length (now values)) ⌝ }
-    ensures { λ _. ⌜ now (values .exit) ≡ written (settledValue (member (now (marks .entry))) (member (now (held .entry)))) n (now (values .entry)) ⌝ }
-{
-    let mut a: usize = 0;
-    while a < n {
-        values[a] = value_code(marks, held, a);
-        a += 1;
-    }
-}
-
-fn report_fault(n: u64, marks: &[u64], table: &[u16], room: u64) -> Checked
-    ensures { λ r. ⌜ r ≡ reportFault n (member (now (marks .entry))) (now (table .entry)) room ⌝ }
-{
-    words::first_of(
-        marking::record_fault(n, marks),
-        words::first_of(
-            marking::table_too_long(table),
-            words::first_of(marking::room_too_small(n, room), words::check(n, table)),
+    refusal::first_of(
+        records::record_fault(record),
+        refusal::first_of(
+            words::table_too_long(table),
+            refusal::first_of(values::room_too_small(n, room), words::check(n, table)),
         ),
     )
 }
 
-fn report_settled(n: u64, marks: [u64; 8], table: &[u16], values: &mut [u8]) -> ReportAnswer
-    requires { ⌜ reportFault n (member marks) (now table) (length (now values)) ≡ Checked.Accepted ⌝ }
-    ensures { λ r. ⌜ ReportAllows (record { n = n; marks = marks }) (now (table .entry)) (now (values .entry)) r (now (values .exit)) ⌝ }
-{
-    let goes_on = marking::can_go_on(table, &marks, n as usize);
-    if goes_on {
-        return ReportAnswer::Refused(Refusal {
-            number: refusal::NOT_SETTLED,
-            place: 0,
-        });
-    }
-    let held = least::held(table, &marks);
-    write_values(values, &marks, &held, n as usize);
-    ReportAnswer::Reported
-}
-
-// The values of a settled record.
-pub fn report(record: MarkRecord, table: &[u16], values: &mut [u8]) -> ReportAnswer
+fn report_settled(record: MarkRecord, table: &[u16], values: &mut [u8]) -> Checked
+    requires { ⌜ reportFault «record» (now table) (length (now values)) ≡ Checked.Accepted ⌝ }
     ensures { λ r. ⌜ ReportAllows «record» (now (table .entry)) (now (values .entry)) r (now (values .exit)) ⌝ }
 {
     let n = record.n;
     let marks = record.marks;
-    if let Checked::Refused(r) = report_fault(n, &marks, table, values.len() as u64) {
-        return ReportAnswer::Refused(r);
+    let goes_on = marking::can_go_on(table, &marks, n as usize);
+    if goes_on {
+        return refusal::refused(refusal::NOT_SETTLED, 0);
     }
-    report_settled(n, marks, table, values)
+    let held = least::held(table, &marks);
+    values::write_values(values, &marks, &held, n as usize);
+    Checked::Accepted
+}
+
+// The values of a settled record.
+pub fn report(record: MarkRecord, table: &[u16], values: &mut [u8]) -> Checked
+    ensures { λ r. ⌜ ReportAllows «record» (now (table .entry)) (now (values .entry)) r (now (values .exit)) ⌝ }
+{
+    if let Checked::Refused(r) = report_fault(record, table, values.len() as u64) {
+        return Checked::Refused(r);
+    }
+    report_settled(record, table, values)
 }

@@ -1,68 +1,27 @@
 // The entries for tests, over numbers and lent rows; tests/probe.h says how each answer is packed into one number.
-use evaluation::EvaluationAnswer;
-use picks::CountAnswer;
-use picks::FreshAnswer;
-use picks::MarkRecord;
 use picks::PickAnswer;
-use picks::ReportAnswer;
-use picks::SettledAnswer;
 use reader::Reading;
 use reader::Role;
 use reader::SheetLiteral;
+use records::MarkRecord;
+use refusal::Checked;
+use refusal::Decided;
+use refusal::Numbered;
 use refusal::Refusal;
 use sheets::SheetAnswer;
-use truth::Truth;
-use words::Checked;
 ghost use mathlib.Core.Path.{_≡_};
 ghost use Rattle.truth.specs.Connectives.{conjunction, disjunction, negated, implied};
 ghost use Rattle.words.specs.Check.{tableCheck};
 ghost use Prim.Native.Nat.{_≤_};
 ghost use lib.ListN.{length};
 ghost use Rattle.reader.specs.Readings.{readingAt, placeAfter, nextAt};
-ghost use Rattle.probe.specs.Packed.{packed, truthNumber, checkedNumber, freshNumber, pickNumber, settledNumber, reportNumber, countNumber, evaluationNumber, FreshPacked, PickPacked, SettledPacked, ReportPacked, CountPacked, EvaluationPacked, roleNumber, literalNumber, readingNumber, nameStart, nameLength, sheetNumber, sheetAtoms, sheetWords, SheetPacked};
+ghost use Rattle.probe.specs.Packed.{packedWrapping, checkedNumber, numberedNumber, decidedNumber, pickNumber, FreshPacked, PickPacked, SettledPacked, ReportPacked, CountPacked, EvaluationPacked, roleNumber, literalNumber, readingNumber, nameStart, nameLength, sheetNumber, sheetAtoms, sheetWords, SheetPacked};
 
 // 2^32 times the number, plus the place.
 fn packed_refusal(r: Refusal) -> u64
-    ensures { λ n. ⌜ n ≡ packed r ⌝ }
+    ensures { λ n. ⌜ n ≡ packedWrapping r ⌝ }
 {
     std::num::wrapping_add_u64(r.number << 32, r.place)
-}
-
-fn truth_number(answer: Truth) -> u64
-    ensures { λ n. ⌜ n ≡ truthNumber answer ⌝ }
-{
-    match answer {
-        Truth::Code(code) => code,
-        Truth::Refused(r) => packed_refusal(r),
-    }
-}
-
-#[no_mangle]
-pub extern "C" fn probe_and(v: u64, w: u64) -> u64
-    ensures { λ n. ⌜ n ≡ truthNumber (conjunction v w) ⌝ }
-{
-    truth_number(truth::and(v, w))
-}
-
-#[no_mangle]
-pub extern "C" fn probe_or(v: u64, w: u64) -> u64
-    ensures { λ n. ⌜ n ≡ truthNumber (disjunction v w) ⌝ }
-{
-    truth_number(truth::or(v, w))
-}
-
-#[no_mangle]
-pub extern "C" fn probe_not(v: u64) -> u64
-    ensures { λ n. ⌜ n ≡ truthNumber (negated v) ⌝ }
-{
-    truth_number(truth::not(v))
-}
-
-#[no_mangle]
-pub extern "C" fn probe_implication(body: u64, head: u64) -> u64
-    ensures { λ n. ⌜ n ≡ truthNumber (implied body head) ⌝ }
-{
-    truth_number(truth::implication(body, head))
 }
 
 fn checked_number(answer: Checked) -> u64
@@ -74,6 +33,53 @@ fn checked_number(answer: Checked) -> u64
     }
 }
 
+fn numbered_number(answer: Numbered) -> u64
+    ensures { λ n. ⌜ n ≡ numberedNumber answer ⌝ }
+{
+    match answer {
+        Numbered::Number(number) => number,
+        Numbered::Refused(r) => packed_refusal(r),
+    }
+}
+
+fn decided_number(answer: Decided) -> u64
+    ensures { λ n. ⌜ n ≡ decidedNumber answer ⌝ }
+{
+    match answer {
+        Decided::Yes => 1,
+        Decided::No => 0,
+        Decided::Refused(r) => packed_refusal(r),
+    }
+}
+
+#[no_mangle]
+pub extern "C" fn probe_and(v: u64, w: u64) -> u64
+    ensures { λ n. ⌜ n ≡ numberedNumber (conjunction v w) ⌝ }
+{
+    numbered_number(truth::and(v, w))
+}
+
+#[no_mangle]
+pub extern "C" fn probe_or(v: u64, w: u64) -> u64
+    ensures { λ n. ⌜ n ≡ numberedNumber (disjunction v w) ⌝ }
+{
+    numbered_number(truth::or(v, w))
+}
+
+#[no_mangle]
+pub extern "C" fn probe_not(v: u64) -> u64
+    ensures { λ n. ⌜ n ≡ numberedNumber (negated v) ⌝ }
+{
+    numbered_number(truth::not(v))
+}
+
+#[no_mangle]
+pub extern "C" fn probe_implication(body: u64, head: u64) -> u64
+    ensures { λ n. ⌜ n ≡ numberedNumber (implied body head) ⌝ }
+{
+    numbered_number(truth::implication(body, head))
+}
+
 #[no_mangle]
 pub extern "C" fn probe_check(n: u64, table: &[u16]) -> u64
     ensures { λ r. ⌜ r ≡ checkedNumber (tableCheck n (now (table .entry))) ⌝ }
@@ -81,26 +87,17 @@ pub extern "C" fn probe_check(n: u64, table: &[u16]) -> u64
     checked_number(words::check(n, table))
 }
 
-fn fresh_number(answer: FreshAnswer) -> u64
-    ensures { λ n. ⌜ n ≡ freshNumber answer ⌝ }
-{
-    match answer {
-        FreshAnswer::Fresh => 0,
-        FreshAnswer::Refused(r) => packed_refusal(r),
-    }
-}
-
 #[no_mangle]
 pub extern "C" fn probe_fresh(asked: u64, n: &mut u64, marks: &mut [u64; 8]) -> u64
     ensures { λ r. ⌜ FreshPacked asked r (now (n .exit)) (now (marks .exit)) ⌝ }
 {
-    let made = picks::fresh(asked);
+    let made = records::fresh(asked);
     let record = made.record;
     let answer = made.answer;
     let m = record.marks;
     *n = record.n;
     *marks = m;
-    fresh_number(answer)
+    checked_number(answer)
 }
 
 fn pick_number(answer: PickAnswer) -> u64
@@ -128,31 +125,12 @@ pub extern "C" fn probe_pick(n: &mut u64, marks: &mut [u64; 8], table: &[u16], a
     pick_number(answer)
 }
 
-fn settled_number(answer: SettledAnswer) -> u64
-    ensures { λ n. ⌜ n ≡ settledNumber answer ⌝ }
-{
-    match answer {
-        SettledAnswer::Yes => 1,
-        SettledAnswer::No => 0,
-        SettledAnswer::Refused(r) => packed_refusal(r),
-    }
-}
-
 #[no_mangle]
 pub extern "C" fn probe_settled(n: u64, marks: &[u64; 8], table: &[u16]) -> u64
     ensures { λ r. ⌜ SettledPacked (record { n = n; marks = now (marks .entry) }) (now (table .entry)) r ⌝ }
 {
     let m = *marks;
-    settled_number(picks::settled(MarkRecord { n, marks: m }, table))
-}
-
-fn report_number(answer: ReportAnswer) -> u64
-    ensures { λ n. ⌜ n ≡ reportNumber answer ⌝ }
-{
-    match answer {
-        ReportAnswer::Reported => 0,
-        ReportAnswer::Refused(r) => packed_refusal(r),
-    }
+    decided_number(picks::settled(MarkRecord { n, marks: m }, table))
 }
 
 #[no_mangle]
@@ -160,16 +138,7 @@ pub extern "C" fn probe_report(n: u64, marks: &[u64; 8], table: &[u16], values: 
     ensures { λ r. ⌜ ReportPacked (record { n = n; marks = now (marks .entry) }) (now (table .entry)) (now (values .entry)) r (now (values .exit)) ⌝ }
 {
     let m = *marks;
-    report_number(picks::report(MarkRecord { n, marks: m }, table, values))
-}
-
-fn count_number(answer: CountAnswer) -> u64
-    ensures { λ n. ⌜ n ≡ countNumber answer ⌝ }
-{
-    match answer {
-        CountAnswer::Marks(marks) => marks,
-        CountAnswer::Refused(r) => packed_refusal(r),
-    }
+    checked_number(picks::report(MarkRecord { n, marks: m }, table, values))
 }
 
 #[no_mangle]
@@ -177,23 +146,14 @@ pub extern "C" fn probe_mark_count(n: u64, marks: &[u64; 8]) -> u64
     ensures { λ r. ⌜ CountPacked (record { n = n; marks = now (marks .entry) }) r ⌝ }
 {
     let m = *marks;
-    count_number(picks::mark_count(MarkRecord { n, marks: m }))
-}
-
-fn evaluation_number(answer: EvaluationAnswer) -> u64
-    ensures { λ n. ⌜ n ≡ evaluationNumber answer ⌝ }
-{
-    match answer {
-        EvaluationAnswer::Evaluated => 0,
-        EvaluationAnswer::Refused(r) => packed_refusal(r),
-    }
+    numbered_number(records::mark_count(MarkRecord { n, marks: m }))
 }
 
 #[no_mangle]
 pub extern "C" fn probe_evaluate(n: u64, table: &[u16], values: &mut [u8]) -> u64
     ensures { λ r. ⌜ EvaluationPacked n (now (table .entry)) (now (values .entry)) r (now (values .exit)) ⌝ }
 {
-    evaluation_number(evaluation::evaluate(n, table, values))
+    checked_number(evaluation::evaluate(n, table, values))
 }
 
 fn role_number(role: Role) -> u64

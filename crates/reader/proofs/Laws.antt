@@ -1,16 +1,14 @@
 -- What the reader says of every sheet: what it tells of a literal, which refusals it gives, where it stands still, and that it ends.
-use mathlib.Core.Path.{_≡_, refl, sym, ap, ap₂, _∙_, subst}
-use mathlib.Core.Logic.{_⊎_, inl, inr}
-use mathlib.Core.List.{List, [], _∷_}
+use mathlib.Core.Path.{_≡_, refl, sym, ap, _∙_, subst}
+use mathlib.Core.Logic.{inl, inr}
+use mathlib.Core.List.{List}
 use mathlib.Core.Bool.{Bool, true, false, cond, _||_}
-use Prim.Native.Nat.{ℕ, zero, suc, _+_, _-_, _^_, _<_, _≤_}
+use Prim.Native.Nat.{ℕ, zero, suc, _+_, _^_, _<_, _≤_}
 use native.Mathlib.Numerals.{add-one}
-use native.Mathlib.Nat.{le-refl}
 use native.Mathlib.Omega.{arith}
-use lib.Dec.{ltb, leb, eqb}
-use lib.ListN.{length, getD, drop}
-use lib.Seq.{drop-cons}
-use borrow.Author.Tests.{ltb-true, ltb-false, leb-true, eqb-true}
+use lib.Dec.{leb, eqb}
+use lib.ListN.{length, drop}
+use borrow.Author.Tests.{leb-true, eqb-true}
 use Rattle.refusal.specs.declared.Refusal.{Refusal}
 use Rattle.refusal.specs.Numbers.{wrong-byte}
 use Rattle.reader.specs.declared.Role.{Role}
@@ -20,8 +18,10 @@ use Rattle.reader.specs.declared.Next.{Next}
 use Rattle.reader.specs.declared.Reading.{Reading}
 use Rattle.reader.specs.declared.Reading.the-variants.{End, Refused, Literal}
 use Rattle.reader.specs.Sheet.{byteAt, isTab, isLineEnd, isSpace, isMinus, startsName, isDigit, continuesName, nameRun, mayFollow, byteBefore}
-use Rattle.reader.specs.Readings.{asking, literal, endedName, nameAt, literalAt, lineAt, readingAfter, readingAt, placeAfter, nextAt, ReadersNumber, GivesOnly, NoLiteral, reached}
-use Rattle.reader.proofs.Runs.{inside-by, name-inside, run-on}
+use Rattle.refusal.specs.Checks.{demanding}
+use Rattle.refusal.proofs.Laws.{demanding-met, demanding-holds}
+use Rattle.reader.specs.Readings.{endedName, nameAt, literalAt, lineAt, readingAfter, readingAt, placeAfter, nextAt, ReadersNumber, GivesOnly, NoLiteral, reached}
+use Rattle.reader.proofs.Runs.{inside-by, run-on}
 
 pub refused-is-no-literal : (r : Refusal) (l : SheetLiteral) → Refused r ≡ Literal l → ⊥
 refused-is-no-literal r l e = let z : _≡_ {A = ℕ} 0 1 = cc in omega arith
@@ -29,9 +29,8 @@ refused-is-no-literal r l e = let z : _≡_ {A = ℕ} 0 1 = cc in omega arith
 pub end-is-no-literal : (l : SheetLiteral) → End ≡ Literal l → ⊥
 end-is-no-literal l e = let z : _≡_ {A = ℕ} 0 1 = cc in omega arith
 
-asking-literal : (b : Bool) (r : Refusal) (rest : Reading) (l : SheetLiteral) → asking b r rest ≡ Literal l → (b ≡ true) × (rest ≡ Literal l)
-asking-literal true r rest l e = (refl, e)
-asking-literal false r rest l e = absurd (refused-is-no-literal r l e)
+demanding-literal : (b : Bool) (r : Refusal) (rest : Reading) (l : SheetLiteral) → demanding Refused b r rest ≡ Literal l → (b ≡ true) × (rest ≡ Literal l)
+demanding-literal b r rest l e = demanding-met Refused b r rest (Literal l) (refused-is-no-literal r l) e
 
 -- the role that the byte before gives
 abbrev pub RoleAfter : ℕ → Role → Type 0
@@ -71,8 +70,8 @@ named-ended : (s : List ℕ) (p q n : ℕ) (negated : Bool) (role : Role) (l : S
     → endedName s q n negated role ≡ Literal l → Named s p role l
 unfolding endedName
 named-ended s p q n negated role l h h′ some e =
-    let first = asking-literal (leb n 24) _ _ l e in
-    let second = asking-literal (mayFollow role (byteAt s (q + n))) _ _ l (first .1) in
+    let first = demanding-literal (leb n 24) _ _ l e in
+    let second = demanding-literal (mayFollow role (byteAt s (q + n))) _ _ l (first .1) in
     let same : record { negated = negated; start = q; len = n; role = role } ≡ l = cc (second .1) in
     subst (Named s p role) same
     (record {
@@ -89,7 +88,7 @@ named-name : (s : List ℕ) (p q : ℕ) (negated : Bool) (role : Role) (l : Shee
     → nameAt s q negated role ≡ Literal l → Named s p role l
 unfolding nameAt
 named-name s p q negated role l h h′ e =
-    let first = asking-literal (startsName (byteAt s q)) _ _ l e in
+    let first = demanding-literal (startsName (byteAt s q)) _ _ l e in
     named-ended s p q (nameRun (drop q s)) negated role l h h′ (run-not-empty s q (first .0)) (first .1)
 
 named-literal : (s : List ℕ) (p : ℕ) (role : Role) (l : SheetLiteral) → literalAt s p role ≡ Literal l → Named s p role l
@@ -123,8 +122,8 @@ line-literal s p l e = by (eqb p (length s)) e
 pub literal-read : (s : List ℕ) (p : ℕ) (l : SheetLiteral) → readingAt s p ≡ Literal l → LiteralRead s p l
 unfolding readingAt readingAfter
 literal-read s p l e =
-    let first = asking-literal (leb (length s) 65536) _ _ l e in
-    let second = asking-literal (leb p (length s)) _ _ l (first .1) in
+    let first = demanding-literal (leb (length s) 65536) _ _ l e in
+    let second = demanding-literal (leb p (length s)) _ _ l (first .1) in
     line (leb-true (length s) 65536 (first .0)) (isLineEnd (byteBefore s p)) refl (second .1)
   where
     space : length s ≤ 65536 → (b : Bool) → isSpace (byteBefore s p) ≡ b
@@ -138,7 +137,9 @@ literal-read s p l e =
     tab fits false q f = space fits (isSpace (byteBefore s p)) refl f
 
     line : length s ≤ 65536 → (b : Bool) → isLineEnd (byteBefore s p) ≡ b
-        → cond b (lineAt s p) (cond (isTab (byteBefore s p)) (literalAt s p First) (cond (isSpace (byteBefore s p)) (literalAt s p Further) (Refused (wrong-byte p)))) ≡ Literal l → LiteralRead s p l
+        → cond b (lineAt s p)
+        (cond (isTab (byteBefore s p)) (literalAt s p First) (cond (isSpace (byteBefore s p)) (literalAt s p Further) (Refused (wrong-byte p)))) ≡ Literal l
+        → LiteralRead s p l
     line fits true q f = in-role-of s p 10 Head l fits (eqb-true (byteBefore s p) 10 q) refl (line-literal s p l f)
     line fits false q f = tab fits (isTab (byteBefore s p)) refl f
 
@@ -163,9 +164,8 @@ place-fits s p (Refused r) h e = h
 place-fits s p (Literal l) h e =
     omega (arith, literal-read s p l (sym e) .sheet-fits, literal-read s p l (sym e) .named .inside)
 
-asking-gives : (b : Bool) (r : Refusal) (rest : Reading) → ReadersNumber (r .number) → GivesOnly rest → GivesOnly (asking b r rest)
-asking-gives true r rest h g = g
-asking-gives false r rest h g = h
+demanding-gives : (b : Bool) (r : Refusal) (rest : Reading) → ReadersNumber (r .number) → GivesOnly rest → GivesOnly (demanding Refused b r rest)
+demanding-gives b r rest h g = demanding-holds GivesOnly Refused b r rest h (λ e. g)
 
 cond-gives : (b : Bool) (x y : Reading) → GivesOnly x → GivesOnly y → GivesOnly (cond b x y)
 cond-gives true x y g h = g
@@ -174,12 +174,12 @@ cond-gives false x y g h = h
 ended-gives : (s : List ℕ) (q n : ℕ) (negated : Bool) (role : Role) → GivesOnly (endedName s q n negated role)
 unfolding endedName
 ended-gives s q n negated role =
-    asking-gives (leb n 24) _ _ (inr (inr refl)) (asking-gives (mayFollow role (byteAt s (q + n))) _ _ (inr (inl refl)) tt)
+    demanding-gives (leb n 24) _ _ (inr (inr refl)) (demanding-gives (mayFollow role (byteAt s (q + n))) _ _ (inr (inl refl)) tt)
 
 name-gives : (s : List ℕ) (q : ℕ) (negated : Bool) (role : Role) → GivesOnly (nameAt s q negated role)
 unfolding nameAt
 name-gives s q negated role =
-    asking-gives (startsName (byteAt s q)) _ _ (inr (inl refl)) (ended-gives s q (nameRun (drop q s)) negated role)
+    demanding-gives (startsName (byteAt s q)) _ _ (inr (inl refl)) (ended-gives s q (nameRun (drop q s)) negated role)
 
 literal-gives : (s : List ℕ) (p : ℕ) (role : Role) → GivesOnly (literalAt s p role)
 unfolding literalAt
@@ -192,8 +192,8 @@ line-gives s p = cond-gives (eqb p (length s)) _ _ tt (literal-gives s p Head)
 pub gives-only-8-10-11 : (s : List ℕ) (p : ℕ) → GivesOnly (readingAt s p)
 unfolding readingAt readingAfter
 gives-only-8-10-11 s p =
-    asking-gives (leb (length s) 65536) _ _ (inl refl)
-    (asking-gives (leb p (length s)) _ _ (inr (inl refl))
+    demanding-gives (leb (length s) 65536) _ _ (inl refl)
+    (demanding-gives (leb p (length s)) _ _ (inr (inl refl))
     (cond-gives (isLineEnd (byteBefore s p)) _ _ (line-gives s p)
     (cond-gives (isTab (byteBefore s p)) _ _ (literal-gives s p First)
     (cond-gives (isSpace (byteBefore s p)) _ _ (literal-gives s p Further) (inr (inl refl))))))

@@ -1,4 +1,4 @@
--- Document 01, "Rule sheet": what the reader says at a place of a sheet, and which place comes next.
+-- Believed: what the reader says at a place of a sheet, and which place comes next.
 use mathlib.Core.List.{List}
 use mathlib.Core.Logic.{_⊎_}
 use mathlib.Core.Path.{_≡_}
@@ -6,20 +6,15 @@ use mathlib.Core.Bool.{Bool, true, false, cond}
 use Prim.Native.Nat.{ℕ, zero, suc, _+_}
 use lib.Dec.{leb, eqb}
 use lib.ListN.{length, drop}
-use Rattle.refusal.specs.declared.Refusal.{Refusal}
+use Rattle.refusal.specs.Checks.{demanding}
+use Rattle.limits.specs.Limits.{mostNameBytes, mostSheetBytes}
 use Rattle.refusal.specs.Numbers.{sheet-too-long, wrong-byte, name-too-long}
 use Rattle.reader.specs.declared.Role.{Role}
 use Rattle.reader.specs.declared.Role.the-variants.{Head, First, Further}
-use Rattle.reader.specs.declared.SheetLiteral.{SheetLiteral}
 use Rattle.reader.specs.declared.Next.{Next}
 use Rattle.reader.specs.declared.Reading.{Reading}
 use Rattle.reader.specs.declared.Reading.the-variants.{End, Refused, Literal}
 use Rattle.reader.specs.Sheet.{byteAt, isTab, isLineEnd, isSpace, isMinus, startsName, nameRun, mayFollow, byteBefore}
-
--- go on where the test passes, refuse where it fails
-abbrev pub asking : Bool → Refusal → Reading → Reading
-asking true r rest = rest
-asking false r rest = Refused r
 
 abbrev pub literal : Bool → ℕ → ℕ → Role → Reading
 literal negated q n role = Literal (record { negated = negated; start = q; len = n; role = role })
@@ -27,13 +22,13 @@ literal negated q n role = Literal (record { negated = negated; start = q; len =
 -- a name of n bytes from q: at most 24, and a byte after it that may follow
 unfoldable pub endedName : List ℕ → ℕ → ℕ → Bool → Role → Reading
 endedName s q n negated role =
-    asking (leb n 24) (name-too-long (q + 24))
-    (asking (mayFollow role (byteAt s (q + n))) (wrong-byte (q + n)) (literal negated q n role))
+    demanding Refused (leb n mostNameBytes) (name-too-long (q + mostNameBytes))
+    (demanding Refused (mayFollow role (byteAt s (q + n))) (wrong-byte (q + n)) (literal negated q n role))
 
 -- a name from q
 unfoldable pub nameAt : List ℕ → ℕ → Bool → Role → Reading
 nameAt s q negated role =
-    asking (startsName (byteAt s q)) (wrong-byte q) (endedName s q (nameRun (drop q s)) negated role)
+    demanding Refused (startsName (byteAt s q)) (wrong-byte q) (endedName s q (nameRun (drop q s)) negated role)
 
 -- a literal from p: an optional "-", then a name
 unfoldable pub literalAt : List ℕ → ℕ → Role → Reading
@@ -52,8 +47,8 @@ readingAfter before s p =
 -- the reading at any place of any byte sequence
 unfoldable pub readingAt : List ℕ → ℕ → Reading
 readingAt s p =
-    asking (leb (length s) 65536) sheet-too-long
-    (asking (leb p (length s)) (wrong-byte (length s)) (readingAfter (byteBefore s p) s p))
+    demanding Refused (leb (length s) mostSheetBytes) sheet-too-long
+    (demanding Refused (leb p (length s)) (wrong-byte (length s)) (readingAfter (byteBefore s p) s p))
 
 -- the place after a reading: past the literal and the byte that follows it; after the end or a refusal it does not move
 unfoldable pub placeAfter : Reading → ℕ → ℕ

@@ -1,4 +1,4 @@
--- Document 01, "Rule sheet": which byte may stand where.
+-- Believed: which byte of a sheet may stand where.
 use mathlib.Core.List.{List, [], _∷_}
 use mathlib.Core.Bool.{Bool, _&&_, _||_, cond}
 use Prim.Native.Nat.{ℕ, zero, suc}

@@ -3,7 +3,7 @@ ghost use mathlib.Core.Path.{_≡_};
 ghost use Prim.Native.Nat.{_+_, _<_, _≤_, _^_};
 ghost use lib.ListN.{length, getD, drop};
 ghost use Rattle.refusal.specs.Numbers.{refusal};
-ghost use Rattle.reader.specs.Sheet.{startsName, isDigit, continuesName, nameRun, mayFollow, byteBefore, isTab, isLineEnd};
+ghost use Rattle.reader.specs.Sheet.{startsName, isDigit, continuesName, nameRun, mayFollow, byteBefore};
 ghost use Rattle.reader.specs.Readings.{endedName, nameAt, literalAt, lineAt, readingAfter, readingAt, placeAfter, nextAt};
 
 // Where a literal stands: at the start of a line, or in a group.
@@ -40,13 +40,11 @@ pub fn byte(sheet: &[u8], i: usize) -> u8
     if i < sheet.len() { sheet[i] } else { 0 }
 }
 
+// A reading that refuses.
 fn refused(number: u64, at: usize) -> Reading
     ensures { λ r. ⌜ r ≡ Reading.Refused (refusal number at) ⌝ }
 {
-    Reading::Refused(Refusal {
-        number,
-        place: at as u64,
-    })
+    Reading::Refused(refusal::at(number, at))
 }
 
 fn starts_name(b: u8) -> bool
@@ -122,8 +120,8 @@ fn ended_name(sheet: &[u8], q: usize, n: usize, negated: bool, role: Role) -> Re
     requires { ⌜ q + n ≤ length (now sheet) ⌝ }
     ensures { λ r. ⌜ r ≡ endedName (now (sheet .entry)) q n negated role ⌝ }
 {
-    if 24 < n {
-        return refused(refusal::NAME_TOO_LONG, q + 24);
+    if limits::MOST_NAME_BYTES < n {
+        return refused(refusal::NAME_TOO_LONG, q + limits::MOST_NAME_BYTES);
     }
     if may_follow(role, byte(sheet, q + n)) {
         Reading::Literal(SheetLiteral {
@@ -201,7 +199,7 @@ fn reading_after(before: u8, sheet: &[u8], place: usize) -> Reading
 pub fn reading_at(sheet: &[u8], place: usize) -> Reading
     ensures { λ r. ⌜ r ≡ readingAt (now (sheet .entry)) place ⌝ }
 {
-    if 65536 < sheet.len() {
+    if limits::MOST_SHEET_BYTES < sheet.len() {
         return refused(refusal::SHEET_TOO_LONG, 0);
     }
     if sheet.len() < place {

@@ -1,4 +1,4 @@
--- Document 01, "Numbers of refusal": when each number is given and at which place, in the table's words and order.
+-- Believed: the numbers of refusal: when each is given and at which place, in document 01's words and order.
 use Prim.Native.Nat.{ℕ}
 use Rattle.refusal.specs.declared.Refusal.{Refusal}
 

@@ -1,7 +1,57 @@
+ghost use mathlib.Core.Path.{_≡_};
+ghost use Rattle.refusal.specs.Numbers.{refusal};
+ghost use Rattle.refusal.specs.Checks.{orElse};
+
 // A refusal: one of document 01's numbers, and the place that it names.
 pub struct Refusal {
     pub number: u64,
     pub place: u64,
+}
+
+// Done, or refused: the answer of a check and of every entry that only does or refuses.
+pub enum Checked {
+    Accepted,
+    Refused(Refusal),
+}
+
+// A number, or refused.
+pub enum Numbered {
+    Number(u64),
+    Refused(Refusal),
+}
+
+// Yes or no, or refused.
+pub enum Decided {
+    Yes,
+    No,
+    Refused(Refusal),
+}
+
+// The refusal of this number at this place.
+pub fn at(number: u64, place: usize) -> Refusal
+    ensures { λ r. ⌜ r ≡ refusal number place ⌝ }
+{
+    Refusal {
+        number,
+        place: place as u64,
+    }
+}
+
+// A check that refuses.
+pub fn refused(number: u64, place: usize) -> Checked
+    ensures { λ r. ⌜ r ≡ Checked.Refused (refusal number place) ⌝ }
+{
+    Checked::Refused(at(number, place))
+}
+
+// The first of two faults.
+pub fn first_of(a: Checked, b: Checked) -> Checked
+    ensures { λ r. ⌜ r ≡ orElse a b ⌝ }
+{
+    match a {
+        Checked::Accepted => b,
+        Checked::Refused(r) => Checked::Refused(r),
+    }
 }
 
 // The numbers as code writes them, by the names of specs/Numbers.antt, which says when each is given.

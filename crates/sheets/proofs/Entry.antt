@@ -1,36 +1,38 @@
 -- The sheet entry, from what its parts ensure.
 use mathlib.Core.Path.{_≡_, refl, sym, ap, ap₂, _∙_, subst, subst₂, fun-ext}
-use mathlib.Core.List.{List, [], _++_}
+use mathlib.Core.List.{List, []}
 use mathlib.Core.Bool.{Bool}
-use Prim.Native.Nat.{ℕ, _+_, _≤_, _<_}
+use Prim.Native.Nat.{ℕ, _≤_}
 use native.Mathlib.Nat.{zero-add}
 use native.Mathlib.Omega.{arith}
-use lib.ListN.{length, getD, take, drop, replicate}
-use lib.Seq.{length-take-le}
+use lib.ListN.{length, getD, take}
 use Rattle.refusal.specs.declared.Refusal.{Refusal}
-use Rattle.refusal.specs.Numbers.{text-room-too-small}
 use Rattle.paper.specs.Table1.{code}
 use Rattle.paper.specs.Rules.{Rule, positive}
-use Rattle.paper.specs.Definitions.{Interpretation, value, Smallest}
+use Rattle.paper.specs.Definitions.{value, Smallest}
 use Rattle.bits.specs.Sets.{member}
-use Rattle.words.specs.declared.Checked.the-variants.{Accepted, Refused}
+use Rattle.refusal.specs.declared.Checked.the-variants.{Accepted}
 use Rattle.words.specs.Layout.{wordsOf, rulesOf}
-use Rattle.words.proofs.Steps.{refused-is-not-accepted}
-use Rattle.evaluation.specs.declared.EvaluationAnswer.{EvaluationAnswer}
+use Rattle.refusal.proofs.Laws.{refused≢accepted}
+use Rattle.refusal.specs.declared.Checked.{Checked}
 use Rattle.evaluation.specs.Evaluation.{evaluationFault, EvaluationAllows}
 use Rattle.evaluation.proofs.Laws.{refused-is, evaluated-is}
 use Rattle.sheetwords.specs.declared.Filled.{Filled}
 use Rattle.sheetwords.specs.declared.Filled.the-variants.{Read, Refused as NotRead}
-use Rattle.sheetwords.specs.Sheets.{Sofar, Outcome, accepted, refused, isHead, sheetOutcome}
-use Rattle.sheetwords.specs.Buffers.{padded, answerOf, wordsIn, namesIn, ReadInto}
-use Rattle.sheetwords.proofs.Growth.{in-front}
+use Rattle.literals.specs.Literals.{Sofar, isHead}
+use Rattle.sheetwords.specs.Sheets.{Outcome, accepted, refused, sheetOutcome}
+use Rattle.buffers.specs.Padded.{padded}
+use Rattle.sheetwords.specs.Filling.{ReadInto}
+use Rattle.literals.proofs.Growth.{in-front}
 use Rattle.sheetwords.proofs.Turns.{accepted-once}
 use Rattle.sheetwords.proofs.Laws.{sheet-within, sheet-table-accepted, sheet-table-rules}
 use Rattle.valuesheet.specs.declared.Printed.{Printed}
 use Rattle.valuesheet.specs.declared.Printed.the-variants.{Whole, Refused as DoesNotFit}
-use Rattle.valuesheet.specs.ValueSheet.{linesFrom, valueSheet, printing, textAfter}
+use Rattle.valuesheet.specs.ValueSheet.{linesFrom, valueSheet}
+use Rattle.valuesheet.specs.Fitting.{printing, textAfter}
 use Rattle.sheets.specs.declared.SheetAnswer.{SheetAnswer}
-use Rattle.sheets.specs.SheetEntry.{sheetOf, counts, SheetAllows, Holding, Valued}
+use Rattle.sheets.specs.SheetEntry.{sheetOf, counts, SheetAllows}
+use Rattle.sheets.specs.Holding.{Holding, Valued}
 use Rattle.sheets.proofs.Values.{same-lines, written-at, no-fault, in-buffer, printed-whole, printed-nothing}
 
 allows : (s : List ℕ) (wordRoom nameRoom : ℕ) (text : List ℕ) {a a′ : SheetAnswer} {u u′ m m′ t t′ : List ℕ} → a ≡ a′ → u ≡ u′ → m ≡ m′ → t ≡ t′
@@ -74,12 +76,14 @@ module _ (s : List ℕ) (wordRoom nameRoom n w : ℕ) (ws ns heads : List ℕ) (
     whole-after : text′ ≡ textAfter (sheetOf s (held .sofar) (v .model)) text
     whole-after = after ∙ ap (λ (out : List ℕ). textAfter out text) (sheet-printed values v)
 
-    pub prints : (bytes : ℕ) → p ≡ Whole bytes → SheetAllows s wordRoom nameRoom text (SheetAnswer.Accepted (record { atoms = n; words = w; bytes = bytes })) ws ns text′
+    pub prints : (bytes : ℕ) → p ≡ Whole bytes
+        → SheetAllows s wordRoom nameRoom text (SheetAnswer.Accepted (record { atoms = n; words = w; bytes = bytes })) ws ns text′
     prints bytes e =
         let x = held .sofar in
         let I = v .model in
         let got = printed-whole (sheetOf s x I) text text′ p whole-answer whole-after bytes e in
-        let same : counts s x I ≡ SheetAnswer.Accepted (record { atoms = n; words = w; bytes = bytes }) = cc (sym (held .atoms), sym (held .filled), sym (got .1)) in
+        let same : counts s x I ≡ SheetAnswer.Accepted (record { atoms = n; words = w; bytes = bytes }) =
+        cc (sym (held .atoms), sym (held .filled), sym (got .1)) in
         allows s wordRoom nameRoom text same (sym (held .words-are)) (sym (held .names-are)) (sym (got .2))
         (SheetAllows.accepted {x = x} {I = I} (held .is) (v .smallest x (held .is)) (got .0))
 
@@ -96,21 +100,23 @@ module _ (s : List ℕ) (wordRoom nameRoom n w : ℕ) (ws ns heads : List ℕ) (
   takes-table : (room : ℕ) → 512 ≤ room → evaluationFault n (take w ws) room ≡ Accepted
   takes-table room h =
       ap₂ (λ (a : ℕ) (t : List ℕ). evaluationFault a t room) (held .atoms) words-taken
-      ∙ no-fault (length (held .sofar .names)) (wordsOf (held .sofar .rules)) room (omega (arith, held .atoms, few-atoms)) (sheet-table-accepted s wordRoom nameRoom (held .sofar) (held .is))
+      ∙ no-fault (length (held .sofar .names)) (wordsOf (held .sofar .rules)) room
+      (omega (arith, held .atoms, few-atoms)) (sheet-table-accepted s wordRoom nameRoom (held .sofar) (held .is))
 
-  pub never-refuses : (room room′ : List ℕ) (ans : EvaluationAnswer) (r : Refusal) → 512 ≤ length room → EvaluationAllows n (take w ws) room ans room′
-      → ans ≡ EvaluationAnswer.Refused r → ⊥
+  pub never-refuses : (room room′ : List ℕ) (ans : Checked) (r : Refusal) → 512 ≤ length room → EvaluationAllows n (take w ws) room ans room′
+      → ans ≡ Checked.Refused r → ⊥
   never-refuses room room′ ans r h allowed e =
-      refused-is-not-accepted r (sym (refused-is n (take w ws) room room′ ans r allowed e .0) ∙ takes-table (length room) h)
+      refused≢accepted r (sym (refused-is n (take w ws) room room′ ans r allowed e .0) ∙ takes-table (length room) h)
 
-  pub valued : (room room′ : List ℕ) (ans : EvaluationAnswer) → EvaluationAllows n (take w ws) room ans room′ → ans ≡ EvaluationAnswer.Evaluated
+  pub valued : (room room′ : List ℕ) (ans : Checked) → EvaluationAllows n (take w ws) room ans room′ → ans ≡ Checked.Accepted
       → Valued s wordRoom nameRoom n room′
   valued room room′ ans allowed e =
       let got = evaluated-is n (take w ws) room room′ ans allowed e .1 in
       record {
         model = got .0;
         smallest = λ x f. subst (λ (R : List Rule). Smallest R (got .0))
-            (ap rulesOf words-taken ∙ sheet-table-rules (held .sofar) ∙ ap (λ (y : Sofar). y .rules) (accepted-once (held .sofar) x (sym (held .is) ∙ f))) (got .1);
+            (ap rulesOf words-taken ∙ sheet-table-rules (held .sofar) ∙ ap (λ (y : Sofar). y .rules) (accepted-once (held .sofar) x (sym (held .is) ∙ f)))
+            (got .1);
         codes = λ a h. ap (λ (t : List ℕ). getD t a 0) (got .2) ∙ written-at (λ b. value (got .0) (positive b)) n room a h;
       }
 
@@ -123,7 +129,15 @@ held-by : (s : List ℕ) (wordRoom nameRoom n w : ℕ) (ws ns heads : List ℕ) 
 held-by s wordRoom nameRoom n w ws ns heads (accepted x) e into =
     let atoms : n ≡ length (x .names) = cc (into .answer) in
     let filled : w ≡ length (wordsOf (x .rules)) = cc (into .answer) in
-    record { sofar = x; is = e; words-are = into .words-are; names-are = into .names-are; heads-are = into .heads-are x refl .are; atoms = atoms; filled = filled }
+    record {
+      sofar = x;
+      is = e;
+      words-are = into .words-are;
+      names-are = into .names-are;
+      heads-are = into .heads-are x refl .are;
+      atoms = atoms;
+      filled = filled;
+    }
 held-by s wordRoom nameRoom n w ws ns heads (refused r) e into = absurd (read-is-not-refused n w r (into .answer))
 
 refused-by : (s : List ℕ) (wordRoom nameRoom : ℕ) (r : Refusal) (text ws ns heads : List ℕ) (o : Outcome) → sheetOutcome s wordRoom nameRoom ≡ o
@@ -134,7 +148,8 @@ refused-by s wordRoom nameRoom r text ws ns heads (refused f) e into =
     allows s wordRoom nameRoom text (ap SheetAnswer.Refused same) (sym (into .words-are)) (sym (into .names-are)) refl (SheetAllows.refused {f = f} e)
 
 -- what the entry's turns need of reading
-module _ (s : List ℕ) (wordRoom nameRoom : ℕ) (filled : Filled) (ws ns heads : List ℕ) (into : ReadInto (sheetOutcome s wordRoom nameRoom) wordRoom nameRoom filled ws ns heads) where
+module _ (s : List ℕ) (wordRoom nameRoom : ℕ) (filled : Filled) (ws ns heads : List ℕ)
+    (into : ReadInto (sheetOutcome s wordRoom nameRoom) wordRoom nameRoom filled ws ns heads) where
   pub holds : (n w : ℕ) → filled ≡ Read n w → Holding s wordRoom nameRoom n w ws ns heads
   holds n w e =
       held-by s wordRoom nameRoom n w ws ns heads (sheetOutcome s wordRoom nameRoom) refl

@@ -1,12 +1,11 @@
 -- Two outcomes that the sheet entry allows are equal, and what an accepted sheet leaves.
 use mathlib.Core.Path.{_≡_, refl, sym, ap, ap₂, _∙_, subst, subst₂}
 use mathlib.Core.List.{List, _++_}
-use Prim.Native.Nat.{ℕ, _-_, _<_, _≤_}
+use Prim.Native.Nat.{ℕ, _-_, _≤_}
 use native.Mathlib.Nat.{le-refl}
 use native.Mathlib.Omega.{arith}
 use lib.ListN.{length, take, drop, replicate, length-append}
 use lib.Seq.{take-append-seam}
-use Rattle.refusal.specs.declared.Refusal.{Refusal}
 use Rattle.refusal.specs.Numbers.{text-room-too-small}
 use Rattle.paper.specs.Rules.{Rule, OneRulePerHead}
 use Rattle.paper.specs.Definitions.{Interpretation, Smallest}
@@ -14,10 +13,11 @@ use Rattle.paper.specs.Marking.{Marks, Marking, Settled}
 use Rattle.paper.proofs.Smallest.{smallest-unique}
 use Rattle.words.specs.Check.{AcceptedTable}
 use Rattle.words.specs.Layout.{wordsOf, rulesOf}
-use Rattle.words.proofs.Laws.{accepted-atoms, accepted-one-rule}
+use Rattle.words.proofs.Laws.{accepted-one-rule}
 use Rattle.evaluation.proofs.Laws.{always-settles}
-use Rattle.sheetwords.specs.Sheets.{Sofar, Outcome, accepted, refused, sheetOutcome}
-use Rattle.sheetwords.specs.Buffers.{padded}
+use Rattle.literals.specs.Literals.{Sofar}
+use Rattle.sheetwords.specs.Sheets.{accepted, refused, sheetOutcome}
+use Rattle.buffers.specs.Padded.{padded}
 use Rattle.sheetwords.proofs.Turns.{accepted-is-not-refused, accepted-once}
 use Rattle.sheetwords.proofs.Laws.{sheet-table-accepted, sheet-table-rules}
 use Rattle.sheets.specs.declared.SheetAnswer.{SheetAnswer}
@@ -59,7 +59,8 @@ module _ (s : List ℕ) (wordRoom nameRoom : ℕ) (text : List ℕ) where
       let same : f ≡ g = (let z : refused f ≡ refused g = sym e ∙ e′ in cc) in (ap SheetAnswer.Refused same, refl, refl, refl)
   sheet-determined (SheetAllows.refused {f} e) (SheetAllows.does-not-fit {x} e′ i h) = absurd (accepted-is-not-refused x f (sym e′ ∙ e))
   sheet-determined (SheetAllows.refused {f} e) (SheetAllows.accepted {x} e′ i h) = absurd (accepted-is-not-refused x f (sym e′ ∙ e))
-  sheet-determined (SheetAllows.does-not-fit {x} {I} e i h) (SheetAllows.never-settles {x = y} e′ A m n) = absurd (n (sheet-settles s wordRoom nameRoom y e′ A m))
+  sheet-determined (SheetAllows.does-not-fit {x} {I} e i h) (SheetAllows.never-settles {x = y} e′ A m n) =
+      absurd (n (sheet-settles s wordRoom nameRoom y e′ A m))
   sheet-determined (SheetAllows.does-not-fit {x} {I} e i h) (SheetAllows.refused {f} e′) = absurd (accepted-is-not-refused x f (sym e ∙ e′))
   sheet-determined (SheetAllows.does-not-fit {x} {I} e i h) (SheetAllows.does-not-fit {x = y} {I = J} e′ j h′) =
       let same = same-sheet s wordRoom nameRoom x y I J e e′ i j in
@@ -81,7 +82,8 @@ module _ (s : List ℕ) (wordRoom nameRoom : ℕ) (text : List ℕ) where
       )
 
 -- an accepted sheet's value sheet lies within the text room
-pub accepted-fits : (s : List ℕ) (wordRoom nameRoom : ℕ) (text : List ℕ) {a : SheetAnswer} {ws ns text′ : List ℕ} → SheetAllows s wordRoom nameRoom text a ws ns text′
+pub accepted-fits : (s : List ℕ) (wordRoom nameRoom : ℕ) (text : List ℕ) {a : SheetAnswer} {ws ns text′ : List ℕ}
+    → SheetAllows s wordRoom nameRoom text a ws ns text′
     → (c : SheetCounts) → a ≡ SheetAnswer.Accepted c → c .bytes ≤ length text′
 accepted-fits s wordRoom nameRoom text (SheetAllows.refused e) c same = absurd (let z : _≡_ {A = ℕ} 0 1 = cc in omega arith)
 accepted-fits s wordRoom nameRoom text (SheetAllows.never-settles e A m n) c same = absurd (let z : _≡_ {A = ℕ} 0 1 = cc in omega arith)
@@ -92,7 +94,8 @@ accepted-fits s wordRoom nameRoom text (SheetAllows.accepted {x} {I} e i h) c sa
     omega (arith, is, length-append v (drop (length v) text))
 
 -- the words that an accepted sheet leaves are an accepted table for the N that it answers, with the sheet's rules
-pub leaves-a-table : (s : List ℕ) (wordRoom nameRoom : ℕ) (text : List ℕ) {a : SheetAnswer} {ws ns text′ : List ℕ} → SheetAllows s wordRoom nameRoom text a ws ns text′
+pub leaves-a-table : (s : List ℕ) (wordRoom nameRoom : ℕ) (text : List ℕ) {a : SheetAnswer} {ws ns text′ : List ℕ}
+    → SheetAllows s wordRoom nameRoom text a ws ns text′
     → (c : SheetCounts) → a ≡ SheetAnswer.Accepted c → (y : Sofar) → sheetOutcome s wordRoom nameRoom ≡ accepted y
     → AcceptedTable (c .atoms) (take (c .words) ws) × (rulesOf (take (c .words) ws) ≡ y .rules)
 unfolding padded

@@ -1,27 +1,28 @@
 -- The values that evaluation leaves are those that the value sheet prints.
-use mathlib.Core.Path.{_≡_, refl, sym, ap, ap₂, _∙_, subst, fun-ext}
+use mathlib.Core.Path.{_≡_, refl, sym, ap, ap₂, _∙_}
 use mathlib.Core.List.{List, [], _∷_, _++_}
 use mathlib.Core.Bool.{Bool, true, false, cond}
 use Prim.Native.Nat.{ℕ, zero, suc, _+_, _-_, _<_, _≤_}
 use native.Mathlib.Nat.{zero-add, add-zero}
 use native.Mathlib.Omega.{arith}
 use lib.Dec.{leb}
-use lib.ListN.{length, getD, take, drop, replicate, length-append, length-replicate, List·getD-append}
+use lib.ListN.{length, getD, drop, replicate, length-append, List·getD-append}
 use borrow.Author.Tests.{le-leb, leb-true, leb-false}
 use Rattle.refusal.specs.declared.Refusal.{Refusal}
 use Rattle.refusal.specs.Numbers.{too-many-atoms, table-too-long, value-room-too-small, text-room-too-small}
 use Rattle.paper.specs.Table1.{Value, code}
-use Rattle.words.specs.declared.Checked.{Checked}
-use Rattle.words.specs.declared.Checked.the-variants.{Accepted, Refused}
-use Rattle.words.specs.Check.{asking, orElse, tableCheck, AcceptedTable}
+use Rattle.refusal.specs.declared.Checked.the-variants.{Accepted}
+use Rattle.refusal.specs.Checks.{asking, orElse}
+use Rattle.words.specs.Check.{tableCheck, AcceptedTable}
 use Rattle.words.proofs.Laws.{accepted-atoms, accepted-length}
-use Rattle.picks.specs.Entries.{codesFrom, written}
-use Rattle.picks.proofs.Written.{length-codes}
+use Rattle.values.specs.Values.{codesFrom, written}
+use Rattle.values.proofs.Written.{length-codes}
 use Rattle.evaluation.specs.Evaluation.{evaluationFault}
-use Rattle.sheetwords.specs.Buffers.{padded}
+use Rattle.buffers.specs.Padded.{padded}
 use Rattle.valuesheet.specs.declared.Printed.{Printed}
 use Rattle.valuesheet.specs.declared.Printed.the-variants.{Whole, Refused as DoesNotFit}
-use Rattle.valuesheet.specs.ValueSheet.{hasLine, lineIf, linesFrom, printing, textAfter}
+use Rattle.valuesheet.specs.ValueSheet.{hasLine, lineIf, linesFrom}
+use Rattle.valuesheet.specs.Fitting.{printing, textAfter}
 
 -- the lines go by the values of their own atoms
 pub same-lines : (s : List ℕ) (heads : ℕ → Bool) (v v′ : ℕ → ℕ) (a : ℕ) (es : List ℕ) → ((b : ℕ) → b < a + length es → v b ≡ v′ b)
@@ -47,8 +48,11 @@ written-at v n room a h =
 pub no-fault : (N : ℕ) (t : List ℕ) (room : ℕ) → N ≤ room → AcceptedTable N t → evaluationFault N t room ≡ Accepted
 unfolding evaluationFault
 no-fault N t room h accepted =
-    ap (λ (b : Bool). orElse (asking b too-many-atoms Accepted) (orElse (asking (leb (length t) 8192) table-too-long Accepted) (orElse (asking (leb N room) value-room-too-small Accepted) (tableCheck N t)))) (le-leb N 512 (accepted-atoms N t accepted))
-    ∙ ap₂ (λ (b b′ : Bool). orElse (asking b table-too-long Accepted) (orElse (asking b′ value-room-too-small Accepted) (tableCheck N t))) (le-leb (length t) 8192 (accepted-length N t accepted)) (le-leb N room h)
+    ap (λ (b : Bool). orElse (asking b too-many-atoms Accepted)
+    (orElse (asking (leb (length t) 8192) table-too-long Accepted) (orElse (asking (leb N room) value-room-too-small Accepted) (tableCheck N t))))
+    (le-leb N 512 (accepted-atoms N t accepted))
+    ∙ ap₂ (λ (b b′ : Bool). orElse (asking b table-too-long Accepted) (orElse (asking b′ value-room-too-small Accepted) (tableCheck N t)))
+    (le-leb (length t) 8192 (accepted-length N t accepted)) (le-leb N room h)
     ∙ accepted
 
 -- a list lies in its buffer

@@ -1,1 +1,2 @@
 pub mod SheetEntry
+pub mod Holding

@@ -1,19 +1,19 @@
--- Document 01, the sheet entry: the answer, and every word, name entry and byte afterwards.
+-- Believed: the sheet entry: its answer, and every word, name entry and byte afterwards.
 use mathlib.Core.Path.{_≡_}
 use mathlib.Core.List.{List, [], _++_}
 use Prim.Native.Nat.{ℕ, _≤_, _<_}
-use lib.ListN.{length, getD, drop}
+use lib.ListN.{length, drop}
 use Rattle.refusal.specs.declared.Refusal.{Refusal}
 use Rattle.refusal.specs.Numbers.{never-settled, text-room-too-small}
 use Rattle.paper.specs.Table1.{code}
 use Rattle.paper.specs.Rules.{positive}
 use Rattle.paper.specs.Definitions.{Interpretation, value, Smallest}
 use Rattle.paper.specs.Marking.{Marks, Marking, Settled}
-use Rattle.bits.specs.Sets.{member}
 use Rattle.words.specs.Layout.{wordsOf}
-use Rattle.sheetwords.specs.Sheets.{Sofar, isHead, sheetOutcome}
+use Rattle.literals.specs.Literals.{Sofar, isHead}
+use Rattle.sheetwords.specs.Sheets.{sheetOutcome}
 use Rattle.sheetwords.specs.Sheets as sheet
-use Rattle.sheetwords.specs.Buffers.{padded}
+use Rattle.buffers.specs.Padded.{padded}
 use Rattle.valuesheet.specs.ValueSheet.{valueSheet}
 use Rattle.sheets.specs.declared.SheetAnswer.{SheetAnswer}
 
@@ -39,19 +39,3 @@ pub data SheetAllows (s : List ℕ) (wordRoom nameRoom : ℕ) (text : List ℕ) 
       → length (sheetOf s x I) ≤ length text
       → SheetAllows s wordRoom nameRoom text (counts s x I) (padded wordRoom (wordsOf (x .rules))) (padded nameRoom (x .names))
       (sheetOf s x I ++ drop (length (sheetOf s x I)) text)
-
--- the buffers hold an accepted sheet of n atoms and w words, and its heads
-pub record Holding (s : List ℕ) (wordRoom nameRoom n w : ℕ) (ws ns heads : List ℕ) : Type 0 where
-  pub sofar : Sofar
-  pub is : sheetOutcome s wordRoom nameRoom ≡ sheet.accepted sofar
-  pub words-are : ws ≡ padded wordRoom (wordsOf (sofar .rules))
-  pub names-are : ns ≡ padded nameRoom (sofar .names)
-  pub heads-are : (j : ℕ) → member heads j ≡ isHead (sofar .rules) j
-  pub atoms : n ≡ length (sofar .names)
-  pub filled : w ≡ length (wordsOf (sofar .rules))
-
--- the first n values are those of the smallest well-supported model of the sheet's rules
-pub record Valued (s : List ℕ) (wordRoom nameRoom n : ℕ) (values : List ℕ) : Type 0 where
-  pub model : Interpretation
-  pub smallest : (x : Sofar) → sheetOutcome s wordRoom nameRoom ≡ sheet.accepted x → Smallest (x .rules) model
-  pub codes : (a : ℕ) → a < n → getD values a 0 ≡ code (value model (positive a))

@@ -1,14 +1,10 @@
-use evaluation::EvaluationAnswer;
+use refusal::Checked;
 use refusal::Refusal;
 use sheetwords::Filled;
 use valuesheet::Printed;
-ghost use mathlib.Core.Path.{_≡_};
-ghost use Prim.Native.Nat.{ℕ, _≤_};
-ghost use lib.ListN.{length, getD};
-ghost use Rattle.paper.specs.Table1.{code};
-ghost use Rattle.paper.specs.Rules.{positive};
-ghost use Rattle.paper.specs.Definitions.{value};
-ghost use Rattle.sheets.specs.SheetEntry.{SheetAllows, Holding, Valued};
+ghost use lib.ListN.{length};
+ghost use Rattle.sheets.specs.SheetEntry.{SheetAllows};
+ghost use Rattle.sheets.specs.Holding.{Holding, Valued};
 
 // An accepted sheet: N, the words filled, and the value sheet's length.
 pub struct SheetCounts {
@@ -45,8 +41,8 @@ fn print_or_clear(
             bytes,
         }),
         Printed::Refused(r) => {
-            sheetwords::clear_words(words);
-            sheetwords::clear_names(names);
+            buffers::clear_words(words);
+            buffers::clear_names(names);
             SheetAnswer::Refused(r)
         }
     }
@@ -65,22 +61,13 @@ fn value_and_print(
     requires { ⌜ Holding (now sheet) (length (now words)) (length (now names)) n w (now words) (now names) (now heads) ⌝ }
     ensures { λ r. ⌜ SheetAllows (now (sheet .entry)) (length (now (words .entry))) (length (now (names .entry))) (now (text .entry)) r (now (words .exit)) (now (names .exit)) (now (text .exit)) ⌝ }
 {
-    let mut values = [0u8; 512];
+    let mut values = [0u8; limits::MOST_ATOMS];
     let answer = evaluation::evaluate(n as u64, &words[..w], &mut values);
     match answer {
-        EvaluationAnswer::Evaluated => print_or_clear(
-            sheet,
-            words,
-            names,
-            heads,
-            n,
-            w,
-            &values,
-            text,
-        ),
-        EvaluationAnswer::Refused(r) => {
-            sheetwords::clear_words(words);
-            sheetwords::clear_names(names);
+        Checked::Accepted => print_or_clear(sheet, words, names, heads, n, w, &values, text),
+        Checked::Refused(r) => {
+            buffers::clear_words(words);
+            buffers::clear_names(names);
             SheetAnswer::Refused(r)
         }
     }

@@ -1,19 +1,18 @@
 -- Reading a sheet literal by literal: what the buffers hold is what document 01 says of the literals so far.
 use mathlib.Core.Path.{_≡_, refl, sym, ap, ap₂, _∙_, subst}
-use mathlib.Core.List.{List, [], _∷_, _++_}
+use mathlib.Core.List.{List, []}
 use mathlib.Core.Bool.{Bool, true, false, cond, true≢false}
-use Prim.Native.Nat.{ℕ, zero, suc, _+_, _*_, _≤_, _<_}
+use Prim.Native.Nat.{ℕ, zero, suc, _+_, _≤_, _<_}
 use native.Mathlib.Omega.{arith}
-use lib.Dec.{ltb, eqb}
-use lib.ListN.{length, getD, take, replicate}
-use lib.Seq.{length-take-le}
-use borrow.Author.Tests.{ltb-true, ltb-false}
+use lib.Dec.{ltb}
+use lib.ListN.{length, take, replicate}
+use borrow.Author.Tests.{ltb-true}
 use Rattle.paper.specs.Rules.{Rule}
 use Rattle.refusal.specs.declared.Refusal.{Refusal}
 use Rattle.bits.specs.Sets.{member}
 use Rattle.bits.proofs.Laws.{member-of-zeros}
-use Rattle.words.specs.declared.Checked.{Checked}
-use Rattle.words.specs.declared.Checked.the-variants.{Accepted, Refused}
+use Rattle.refusal.specs.declared.Checked.{Checked}
+use Rattle.refusal.specs.declared.Checked.the-variants.{Accepted, Refused}
 use Rattle.words.specs.Layout.{wordsOf}
 use Rattle.reader.specs.declared.Role.{Role}
 use Rattle.reader.specs.declared.Role.the-variants.{Head, First, Further}
@@ -22,16 +21,16 @@ use Rattle.reader.specs.declared.Reading.{Reading}
 use Rattle.reader.specs.declared.Reading.the-variants.{End, Refused as ReadRefused, Literal}
 use Rattle.reader.specs.Sheet.{byteAt, mayFollow, byteBefore}
 use Rattle.reader.specs.Readings.{readingAt, placeAfter}
-use Rattle.reader.proofs.Laws.{RoleAfter, LiteralRead, literal-read, next-after, place-grows, place-inside}
+use Rattle.reader.proofs.Laws.{RoleAfter, literal-read, next-after, place-grows, place-inside}
 use Rattle.names.specs.Names.{bytesAt, entryFor}
 use Rattle.names.proofs.Steps.{number-in-front}
-use Rattle.sheetwords.specs.declared.Counts.{Counts}
-use Rattle.sheetwords.specs.declared.Taken.{Taken}
-use Rattle.sheetwords.specs.declared.Taken.the-variants.{On, Off}
-use Rattle.sheetwords.specs.Sheets.{Sofar, Outcome, accepted, refused, nothing, withLiteral, wordsFor, atomOf, codeFor, codeOf, withName, after, isHead, repeats, inBody, lastGroups, lastGroup, faultWith, literalFault, unless, byReading, sheetFrom}
-use Rattle.sheetwords.specs.Buffers.{padded, namesWith, putWords, putName, putHead, counted, Room, bodyIn, atomIn, codeIn, faultIn, Put, Took}
-use Rattle.sheetwords.proofs.Taking.{Allowed, faultless-allowed}
-use Rattle.sheetwords.proofs.Growth.{RuleAt, GroupAt, Standing, words-grow, words-kept, body-is, on-rule, on-group-first, on-group-further, heads-kept, heads-length, names-length, names-kept, in-front, words-length, name-room}
+use Rattle.literals.specs.declared.Counts.{Counts}
+use Rattle.literals.specs.Literals.{Sofar, nothing, withLiteral, wordsFor, atomOf, codeOf, withName, after, isHead, repeats, faultWith, literalFault}
+use Rattle.sheetwords.specs.Sheets.{Outcome, accepted, refused, unless, byReading, sheetFrom}
+use Rattle.buffers.specs.Padded.{padded}
+use Rattle.literals.specs.Putting.{namesWith, putName, counted, Room, bodyIn, atomIn, codeIn, faultIn, Put}
+use Rattle.literals.proofs.Taking.{faultless-allowed}
+use Rattle.literals.proofs.Growth.{RuleAt, GroupAt, Standing, words-grow, words-kept, body-is, on-rule, on-group-first, on-group-further, heads-kept, heads-length, names-length, names-kept, in-front, words-length, name-room, code-below}
 
 -- the buffers hold what the literals so far have given
 pub record Kept (sofar : Sofar) (k : Counts) (ws ns heads : List ℕ) : Type 0 where
@@ -52,11 +51,32 @@ same-heads Further p q c e = refl
 room-after : (role : Role) (a : ℕ) (k : Counts) (ws ns ws′ ns′ : List ℕ) → Room k ws ns → namesWith a (k .atoms) ≤ 512
     → k .words + wordsFor role ≤ 8192 → length ws′ ≡ length ws → length ns′ ≡ length ns → Room (counted role a k) ws′ ns′
 room-after Head a k ws ns ws′ ns′ room h h′ e e′ =
-    record { atoms = h; words = h′; rule = h′; group = room .group; word-buffer = omega (arith, room .word-buffer); name-buffer = omega (arith, room .name-buffer) }
+    record {
+      atoms = h;
+      words = h′;
+      rule = h′;
+      group = room .group;
+      word-buffer = omega (arith, room .word-buffer);
+      name-buffer = omega (arith, room .name-buffer);
+    }
 room-after First a k ws ns ws′ ns′ room h h′ e e′ =
-    record { atoms = h; words = h′; rule = room .rule; group = omega arith; word-buffer = omega (arith, room .word-buffer); name-buffer = omega (arith, room .name-buffer) }
+    record {
+      atoms = h;
+      words = h′;
+      rule = room .rule;
+      group = omega arith;
+      word-buffer = omega (arith, room .word-buffer);
+      name-buffer = omega (arith, room .name-buffer);
+    }
 room-after Further a k ws ns ws′ ns′ room h h′ e e′ =
-    record { atoms = h; words = h′; rule = room .rule; group = room .group; word-buffer = omega (arith, room .word-buffer); name-buffer = omega (arith, room .name-buffer) }
+    record {
+      atoms = h;
+      words = h′;
+      rule = room .rule;
+      group = room .group;
+      word-buffer = omega (arith, room .word-buffer);
+      name-buffer = omega (arith, room .name-buffer);
+    }
 
 atoms-counted : (role : Role) (a : ℕ) (k : Counts) → counted role a k .atoms ≡ namesWith a (k .atoms)
 atoms-counted Head a k = refl
@@ -76,23 +96,21 @@ atom-below a atoms h = by (ltb a atoms) refl
     by true q g = omega (arith, ltb-true a atoms q)
     by false q g = omega arith
 
-code-below : (negated : Bool) (a n : ℕ) → a < n → codeFor negated a < 2 * n
-code-below true a n h = omega arith
-code-below false a n h = omega arith
-
 -- a literal has been put into buffers that are kept: they are kept for one literal more
 abbrev pub afterBy : ℕ → ℕ → SheetLiteral → Sofar → Sofar
 afterBy a c l sofar =
     record { names = withName a l (sofar .names); rules = withLiteral (l .role) c (sofar .rules); words = sofar .words + wordsFor (l .role) }
 
-module _ (sofar : Sofar) (k : Counts) (ws ns heads : List ℕ) (kept : Kept sofar k ws ns heads) (l : SheetLiteral) (at : Standing (l .role) k (sofar .rules)) where
+module _
+    (sofar : Sofar) (k : Counts) (ws ns heads : List ℕ) (kept : Kept sofar k ws ns heads) (l : SheetLiteral) (at : Standing (l .role) k (sofar .rules)) where
   keeps-by : (a c : ℕ) (k′ : Counts) (ws′ ns′ heads′ : List ℕ) → c < 1024 → namesWith a (k .atoms) ≤ 512 → k .words + wordsFor (l .role) ≤ 8192
       → Put a c l k ws ns heads k′ ws′ ns′ heads′ → Kept (afterBy a c l sofar) k′ ws′ ns′ heads′
   keeps-by a c k′ ws′ ns′ heads′ small names-fit words-fit put =
       let ws-length = ap length (put .words-are) ∙ words-length (l .role) c k ws in
       let ns-length = ap length (put .names-are) ∙ name-room a (k .atoms) _ ns in
       record {
-        atoms = ap (λ (x : Counts). x .atoms) (put .counts-are) ∙ atoms-counted (l .role) a k ∙ ap (namesWith a) (kept .atoms) ∙ sym (names-length a l (sofar .names));
+        atoms = ap (λ (x : Counts). x .atoms) (put .counts-are) ∙ atoms-counted (l .role) a k
+            ∙ ap (namesWith a) (kept .atoms) ∙ sym (names-length a l (sofar .names));
         words = ap (λ (x : Counts). x .words) (put .counts-are) ∙ words-counted (l .role) a k
             ∙ ap (λ (x : ℕ). x + wordsFor (l .role)) (kept .words) ∙ sym (words-grow (l .role) k (sofar .rules) c at);
         counts = ap (λ (x : ℕ). x + wordsFor (l .role)) (kept .counts) ∙ sym (words-grow (l .role) k (sofar .rules) c at);
@@ -101,11 +119,14 @@ module _ (sofar : Sofar) (k : Counts) (ws ns heads : List ℕ) (kept : Kept sofa
             ∙ ap (λ (n : ℕ). padded n (wordsOf (withLiteral (l .role) c (sofar .rules)))) (sym ws-length);
         in-names = put .names-are
             ∙ ap (λ (n : ℕ). putName a n (entryFor (l .start) (l .len)) ns) (kept .atoms)
-            ∙ names-kept a l (sofar .names) ns (length ns) (kept .in-names) (subst (λ (n : ℕ). namesWith a n ≤ length ns) (kept .atoms) (omega (arith, kept .room .name-buffer)))
+            ∙ names-kept a l (sofar .names) ns
+            (length ns) (kept .in-names) (subst (λ (n : ℕ). namesWith a n ≤ length ns) (kept .atoms) (omega (arith, kept .room .name-buffer)))
             ∙ ap (λ (n : ℕ). padded n (withName a l (sofar .names))) (sym ns-length);
-        in-heads = λ j. ap (λ (h : List ℕ). member h j) (put .heads-are) ∙ heads-kept (l .role) (sofar .rules) c heads small (kept .heads-16) (kept .in-heads) j;
+        in-heads =
+            λ j. ap (λ (h : List ℕ). member h j) (put .heads-are) ∙ heads-kept (l .role) (sofar .rules) c heads small (kept .heads-16) (kept .in-heads) j;
         heads-16 = ap length (put .heads-are) ∙ heads-length (l .role) c heads ∙ kept .heads-16;
-        room = subst (λ (x : Counts). Room x ws′ ns′) (sym (put .counts-are)) (room-after (l .role) a k ws ns ws′ ns′ (kept .room) names-fit words-fit ws-length ns-length);
+        room = subst (λ (x : Counts). Room x ws′ ns′) (sym (put .counts-are))
+            (room-after (l .role) a k ws ns ws′ ns′ (kept .room) names-fit words-fit ws-length ns-length);
       }
 
   names-taken : take (k .atoms) ns ≡ sofar .names
@@ -119,10 +140,15 @@ module _ (sofar : Sofar) (k : Counts) (ws ns heads : List ℕ) (kept : Kept sofa
       let a = atomOf s (sofar .names) l in
       let R = sofar .rules in
       let role = l .role in
-      ap (λ (t : List ℕ). faultWith (namesWith (atomOf s t l) (k .atoms)) (repeats role (member heads) (codeOf s t l)) (bodyIn role k ws) (k .words + wordsFor role) p (l .start)) names-taken
-      ∙ ap (λ (x : ℕ). faultWith x (repeats role (member heads) c) (bodyIn role k ws) (k .words + wordsFor role) p (l .start)) (ap (namesWith a) (kept .atoms) ∙ sym (names-length a l (sofar .names)))
-      ∙ ap (λ (b : Bool). faultWith (length (withName a l (sofar .names))) b (bodyIn role k ws) (k .words + wordsFor role) p (l .start)) (same-heads role (member heads) (isHead R) c (kept .in-heads))
-      ∙ ap₂ (λ (x y : ℕ). faultWith (length (withName a l (sofar .names))) (repeats role (isHead R) c) x (y + wordsFor role) p (l .start)) (body-is role k R (length ws) ws at (kept .in-words)) (kept .words ∙ sym (kept .counts))
+      ap (λ (t : List ℕ). faultWith
+      (namesWith (atomOf s t l) (k .atoms)) (repeats role (member heads) (codeOf s t l)) (bodyIn role k ws) (k .words + wordsFor role) p (l .start))
+      names-taken
+      ∙ ap (λ (x : ℕ). faultWith x (repeats role (member heads) c) (bodyIn role k ws) (k .words + wordsFor role) p (l .start))
+      (ap (namesWith a) (kept .atoms) ∙ sym (names-length a l (sofar .names)))
+      ∙ ap (λ (b : Bool). faultWith (length (withName a l (sofar .names))) b (bodyIn role k ws) (k .words + wordsFor role) p (l .start))
+      (same-heads role (member heads) (isHead R) c (kept .in-heads))
+      ∙ ap₂ (λ (x y : ℕ). faultWith (length (withName a l (sofar .names))) (repeats role (isHead R) c) x (y + wordsFor role) p (l .start))
+      (body-is role k R (length ws) ws at (kept .in-words)) (kept .words ∙ sym (kept .counts))
 
   pub keeps : (s : List ℕ) (p : ℕ) (k′ : Counts) (ws′ ns′ heads′ : List ℕ) → faultIn s k ws ns heads p l ≡ Accepted
       → Put (atomIn s k ns l) (codeIn s k ns l) l k ws ns heads k′ ws′ ns′ heads′ → Kept (after s sofar l) k′ ws′ ns′ heads′
@@ -132,7 +158,8 @@ module _ (sofar : Sofar) (k : Counts) (ws ns heads : List ℕ) (kept : Kept sofa
       let fits : k .atoms ≤ length ns = omega (arith, kept .room .atoms, kept .room .name-buffer) in
       let below = atom-below (atomIn s k ns l) (k .atoms) (number-in-front s ns (bytesAt s (l .start) (l .len)) (k .atoms) fits) (allowed .names-fit) in
       subst (λ (t : List ℕ). Kept (afterBy (atomOf s t l) (codeOf s t l) l sofar) k′ ws′ ns′ heads′) names-taken
-      (keeps-by (atomIn s k ns l) (codeIn s k ns l) k′ ws′ ns′ heads′ (code-below (l .negated) (atomIn s k ns l) 512 below) (allowed .names-fit) (allowed .words-fit) put)
+      (keeps-by (atomIn s k ns l) (codeIn s k ns l) k′ ws′ ns′ heads′
+      (code-below (l .negated) (atomIn s k ns l) 512 below) (allowed .names-fit) (allowed .words-fit) put)
 
 -- what the byte after a literal lets follow stands on what the literal has left
 abbrev Left : Role → Counts → List Rule → Type 0
@@ -140,7 +167,8 @@ Left Head k R = RuleAt k R
 Left First k R = RuleAt k R × GroupAt k R
 Left Further k R = RuleAt k R × GroupAt k R
 
-leaves : (a : ℕ) (role : Role) (k : Counts) (R : List Rule) (c : ℕ) → Standing role k R → k .words ≡ length (wordsOf R) → Left role (counted role a k) (withLiteral role c R)
+leaves : (a : ℕ) (role : Role) (k : Counts) (R : List Rule) (c : ℕ) → Standing role k R
+    → k .words ≡ length (wordsOf R) → Left role (counted role a k) (withLiteral role c R)
 leaves a Head k R c at end = on-rule a Head k R c at end
 leaves a First k R c at end = (on-rule a First k R c at end, on-group-first a k R c at end)
 leaves a Further k R c at end = (on-rule a Further k R c at end, on-group-further a k R c at)
@@ -240,7 +268,8 @@ module _ (s : List ℕ) (whole : Outcome) (p : ℕ) (k : Counts) (ws ns heads : 
     at-fault x e =
         let one = step s (inv .fuel) p (inv .sofar) (Literal l) whole (inv .inside) (inv .enough) (inv .onward) is in
         sym (one .2)
-        ∙ ap (λ (f : Checked). unless f (sheetFrom (one .0) s (placeAfter (Literal l) p) (after s (inv .sofar) l))) (sym (faults-agree (inv .sofar) k ws ns heads (inv .kept) l stands s p) ∙ e)
+        ∙ ap (λ (f : Checked). unless f (sheetFrom (one .0) s (placeAfter (Literal l) p) (after s (inv .sofar) l)))
+        (sym (faults-agree (inv .sofar) k ws ns heads (inv .kept) l stands s p) ∙ e)
 
     pub at-literal : (k′ : Counts) (ws′ ns′ heads′ : List ℕ) → faultIn s k ws ns heads p l ≡ Accepted
         → Put (atomIn s k ns l) (codeIn s k ns l) l k ws ns heads k′ ws′ ns′ heads′
@@ -256,5 +285,6 @@ module _ (s : List ℕ) (whole : Outcome) (p : ℕ) (k : Counts) (ws ns heads : 
               (ready-next s p l k (inv .sofar .rules) (atomIn s k ns l) (codeOf s (inv .sofar .names) l) is (inv .ready) (inv .kept .words));
           inside = place-inside s p l is;
           enough = omega (arith, place-grows s p l is, inv .enough, one .1);
-          onward = sym (ap (λ (f : Checked). unless f (sheetFrom (one .0) s (placeAfter (Literal l) p) (after s (inv .sofar) l))) (sym (faults-agree (inv .sofar) k ws ns heads (inv .kept) l stands s p) ∙ e)) ∙ one .2;
+          onward = sym (ap (λ (f : Checked). unless f (sheetFrom (one .0) s (placeAfter (Literal l) p) (after s (inv .sofar) l)))
+              (sym (faults-agree (inv .sofar) k ws ns heads (inv .kept) l stands s p) ∙ e)) ∙ one .2;
         }

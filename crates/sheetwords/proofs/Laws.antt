@@ -1,5 +1,5 @@
 -- The words of an accepted sheet are an accepted table for its N, and its rules are those of the table.
-use mathlib.Core.Path.{_≡_, refl, sym, ap, ap₂, _∙_, subst}
+use mathlib.Core.Path.{_≡_, refl, sym, ap, _∙_, subst}
 use mathlib.Core.Logic.{⊎-elim}
 use mathlib.Core.List.{List, [], _∷_, _++_, List·Memᴰ·append-cases, List·Memᴰ·eq-of-singleton, List·Memᴰ·head, List·Memᴰ·tail, List·Memᴰ·not-nil}
 use mathlib.Core.Bool.{Bool, true, false, cond, _&&_, true≢false}
@@ -7,15 +7,15 @@ use Prim.Native.Nat.{ℕ, zero, suc, _+_, _*_, _≤_, _<_}
 use native.Mathlib.Omega.{arith}
 use lib.Dec.{eqb, ltb, leb}
 use lib.ListN.{length, length-append}
-use borrow.Author.Tests.{ltb-true, leb-true}
-use Rattle.paper.specs.Rules.{Rule, _∈_}
+use borrow.Author.Tests.{ltb-true}
+use Rattle.paper.specs.Rules.{Rule}
+use Rattle.sets.specs.Sets.{_∈_, _with_}
 use Rattle.refusal.specs.declared.Refusal.{Refusal}
-use Rattle.bits.specs.Sets.{_with_}
-use Rattle.words.specs.declared.Checked.{Checked}
-use Rattle.words.specs.declared.Checked.the-variants.{Accepted, Refused}
+use Rattle.refusal.specs.declared.Checked.{Checked}
+use Rattle.refusal.specs.declared.Checked.the-variants.{Accepted, Refused}
 use Rattle.words.specs.Layout.{wordsOf, rulesOf, groupsWords, bodyAt}
 use Rattle.words.specs.Check.{noHeads, AcceptedTable}
-use Rattle.words.specs.Limits.{GroupWithin, BodyWithin, Within}
+use Rattle.words.specs.Within.{GroupWithin, BodyWithin, Within}
 use Rattle.words.proofs.Good.{Good, good-heads, good-distinct, good-bodies}
 use Rattle.words.proofs.Laws.{within-accepted}
 use Rattle.words.proofs.Reading.{rulesOf-wordsOf}
@@ -29,12 +29,15 @@ use Rattle.reader.specs.Readings.{readingAt, placeAfter}
 use Rattle.reader.proofs.Laws.{RoleAfter, literal-read}
 use Rattle.names.specs.Names.{bytesAt}
 use Rattle.names.proofs.Steps.{number-at-most}
-use Rattle.sheetwords.specs.declared.Counts.{Counts}
-use Rattle.sheetwords.specs.Sheets.{Sofar, Outcome, accepted, refused, nothing, onLast, lastOr, fact, lastGroups, lastGroup, changeGroups, withLiteral, wordsFor, atomOf, codeFor, codeOf, withName, after, isHead, repeats, inBody, faultWith, literalFault, unless, byReading, demanding, sheetFrom, sheetOutcome}
-use Rattle.sheetwords.specs.Buffers.{namesWith, counted}
-use Rattle.sheetwords.proofs.Lasts.{butLast, Some, snoc-of, onLast-is}
-use Rattle.sheetwords.proofs.Taking.{Allowed, faultless-allowed}
-use Rattle.sheetwords.proofs.Growth.{Standing, words-grow, names-length}
+use Rattle.literals.specs.declared.Counts.{Counts}
+use Rattle.literals.specs.Literals.{Sofar, nothing, onLast, lastOr, fact, lastGroups, lastGroup, changeGroups, withLiteral, atomOf, codeOf, withName, after, isHead, repeats, inBody, literalFault}
+use Rattle.sheetwords.specs.Sheets.{Outcome, accepted, refused, unless, byReading, sheetFrom, sheetOutcome}
+use Rattle.refusal.specs.Checks.{demanding}
+use Rattle.refusal.proofs.Laws.{demanding-met}
+use Rattle.literals.specs.Putting.{namesWith}
+use Rattle.literals.proofs.Lasts.{butLast, Some, snoc-of, onLast-is}
+use Rattle.literals.proofs.Taking.{faultless-allowed}
+use Rattle.literals.proofs.Growth.{Standing, words-grow, names-length, code-below}
 use Rattle.sheetwords.proofs.Filling.{Ready, ready-next}
 use Rattle.sheetwords.proofs.Turns.{accepted-is-not-refused, accepted-once}
 
@@ -74,7 +77,8 @@ cond-false false x e = (refl, e)
 no-body : (N : ℕ) → BodyWithin N []
 no-body N = record { at-most-64 = omega arith; each-group = λ β m. absurd (List·Memᴰ·not-nil m) }
 
-good-head : (N : ℕ) (seen : ℕ → Bool) (R : List Rule) (c : ℕ) → c < 2 * N → seen c ≡ false → isHead R c ≡ false → Good N seen R → Good N seen (R ++ (fact c ∷ []))
+good-head : (N : ℕ) (seen : ℕ → Bool) (R : List Rule) (c : ℕ) → c < 2 * N → seen c ≡ false
+    → isHead R c ≡ false → Good N seen R → Good N seen (R ++ (fact c ∷ []))
 unfolding isHead
 good-head N seen [] c h unseen new g = (h, unseen, no-body N, tt)
 good-head N seen (ρ ∷ R) c h unseen new g =
@@ -123,7 +127,10 @@ good-after First N R c at h new short g =
     let βs = lastGroups R in
     let body = good-bodies N noHeads R g (lastOr (fact 0) R) (last-of (fact 0) R (at .0)) in
     good-changed (λ γs. γs ++ ((c ∷ []) ∷ [])) N noHeads (fact 0) R (at .0) g
-    (record { at-most-64 = omega (arith, length-append βs ((c ∷ []) ∷ [])); each-group = all-snoc (GroupWithin N) βs (c ∷ []) (body .each-group) (one-literal N c h) })
+    (record {
+      at-most-64 = omega (arith, length-append βs ((c ∷ []) ∷ []));
+      each-group = all-snoc (GroupWithin N) βs (c ∷ []) (body .each-group) (one-literal N c h);
+    })
 good-after Further N R c at h new short g =
     let βs = lastGroups R in
     let body = good-bodies N noHeads R g (lastOr (fact 0) R) (last-of (fact 0) R (at .0 .0)) in
@@ -131,7 +138,13 @@ good-after Further N R c at h new short g =
     good-changed (onLast (λ γ. γ ++ (c ∷ []))) N noHeads (fact 0) R (at .0 .0) g
     (subst (BodyWithin N) (sym grown)
     (record {
-      at-most-64 = omega (arith, length-append (butLast βs) ((lastGroup R ++ (c ∷ [])) ∷ []), length-append (butLast βs) (lastGroup R ∷ []), ap length (snoc-of [] βs (at .1 .0)), body .at-most-64);
+      at-most-64 = omega (
+        arith,
+        length-append (butLast βs) ((lastGroup R ++ (c ∷ [])) ∷ []),
+        length-append (butLast βs) (lastGroup R ∷ []),
+        ap length (snoc-of [] βs (at .1 .0)),
+        body .at-most-64,
+      );
       each-group = all-snoc (GroupWithin N) (butLast βs) (lastGroup R ++ (c ∷ [])) (λ β m. body .each-group β (front-of βs β m))
           (more-literals N c (lastGroup R) h short (body .each-group (lastGroup R) (last-of [] βs (at .1 .0))));
     }))
@@ -143,10 +156,6 @@ number-below a n h = by (ltb a n) refl
     by : (b : Bool) → ltb a n ≡ b → (a < cond b n (n + 1)) × (n ≤ cond b n (n + 1))
     by true q = (ltb-true a n q, omega arith)
     by false q = (omega arith, omega arith)
-
-code-below : (negated : Bool) (a n : ℕ) → a < n → codeFor negated a < 2 * n
-code-below true a n h = omega arith
-code-below false a n h = omega arith
 
 -- what the literals so far have given is within the limits
 pub record Sound (sofar : Sofar) : Type 0 where
@@ -173,7 +182,8 @@ sound-after s p sofar l at e sound =
     let more : length (sofar .names) ≤ N′ = omega (arith, size, below .1) in
     let grown = words-grow (l .role) (countsOf R) R c at in
     record {
-      good = good-after (l .role) N′ R c at (code-below (l .negated) a N′ in-names) (allowed .not-repeated) (allowed .body-fits) (more-atoms (length (sofar .names)) N′ noHeads R more (sound .good));
+      good = good-after (l .role) N′ R c at (code-below (l .negated) a N′ in-names) (allowed .not-repeated)
+          (allowed .body-fits) (more-atoms (length (sofar .names)) N′ noHeads R more (sound .good));
       few = allowed .names-fit;
       short = omega (arith, grown, sound .counts, allowed .words-fit);
       counts = omega (arith, grown, sound .counts);
@@ -191,7 +201,8 @@ unless-accepted (Refused r) o x e = absurd (accepted-is-not-refused x r (sym e))
 
 sound-step : (s : List ℕ) (n p : ℕ) (sofar x : Sofar)
     → ((q : ℕ) (y : Sofar) → ReadyAt s q (y .rules) → Sound y → sheetFrom n s q y ≡ accepted x → Sound x)
-    → (r : Reading) → readingAt s p ≡ r → ReadyAt s p (sofar .rules) → Sound sofar → byReading s p sofar r (sheetFrom n s (placeAfter r p)) ≡ accepted x → Sound x
+    → (r : Reading) → readingAt s p ≡ r → ReadyAt s p (sofar .rules) → Sound sofar
+    → byReading s p sofar r (sheetFrom n s (placeAfter r p)) ≡ accepted x → Sound x
 sound-step s n p sofar x onward End is ready sound e = subst Sound (accepted-once sofar x e) sound
 sound-step s n p sofar x onward (ReadRefused r) is ready sound e = absurd (accepted-is-not-refused x r (sym e))
 sound-step s n p sofar x onward (Literal l) is ready sound e =
@@ -218,15 +229,14 @@ sound-at-start : Sound nothing
 unfolding wordsOf
 sound-at-start = record { good = tt; few = omega arith; short = omega arith; counts = refl }
 
-demanding-accepted : (b : Bool) (r : Refusal) (o : Outcome) (x : Sofar) → demanding b r o ≡ accepted x → o ≡ accepted x
-demanding-accepted true r o x e = e
-demanding-accepted false r o x e = absurd (accepted-is-not-refused x r (sym e))
+pub demanding-accepted : (b : Bool) (r : Refusal) (o : Outcome) (x : Sofar) → demanding refused b r o ≡ accepted x → (b ≡ true) × (o ≡ accepted x)
+demanding-accepted b r o x e = demanding-met refused b r o (accepted x) (λ q. accepted-is-not-refused x r (sym q)) e
 
 sound-sheet : (s : List ℕ) (wordRoom nameRoom : ℕ) (x : Sofar) → sheetOutcome s wordRoom nameRoom ≡ accepted x → Sound x
 unfolding sheetOutcome
 sound-sheet s wordRoom nameRoom x e =
     sound-from (length s + 1) s 0 nothing x (ready-at-start s) sound-at-start
-    (demanding-accepted (leb 8192 wordRoom && leb 512 nameRoom) _ _ x (demanding-accepted (leb (length s) 65536) _ _ x e))
+    (demanding-accepted (leb 8192 wordRoom && leb 512 nameRoom) _ _ x (demanding-accepted (leb (length s) 65536) _ _ x e .1) .1)
 
 -- the rules of an accepted sheet are within document 01's limits
 pub sheet-within : (s : List ℕ) (wordRoom nameRoom : ℕ) (x : Sofar) → sheetOutcome s wordRoom nameRoom ≡ accepted x → Within (length (x .names)) (x .rules)
@@ -248,16 +258,3 @@ sheet-table-accepted s wordRoom nameRoom x e = within-accepted (length (x .names
 -- and the rules of that table are the sheet's
 pub sheet-table-rules : (x : Sofar) → rulesOf (wordsOf (x .rules)) ≡ x .rules
 sheet-table-rules x = rulesOf-wordsOf (x .rules)
-
--- the words counted are the words filled
-pub words-counted : (s : List ℕ) (wordRoom nameRoom : ℕ) (x : Sofar) → sheetOutcome s wordRoom nameRoom ≡ accepted x → x .words ≡ length (wordsOf (x .rules))
-words-counted s wordRoom nameRoom x e = sound-sheet s wordRoom nameRoom x e .counts
-
--- an accepted sheet has at most 65,536 bytes
-pub accepted-bytes : (s : List ℕ) (wordRoom nameRoom : ℕ) (x : Sofar) → sheetOutcome s wordRoom nameRoom ≡ accepted x → length s ≤ 65536
-unfolding sheetOutcome
-accepted-bytes s wordRoom nameRoom x e = by (leb (length s) 65536) _ _ refl e
-  where
-    by : (b : Bool) (r : Refusal) (o : Outcome) → leb (length s) 65536 ≡ b → demanding b r o ≡ accepted x → length s ≤ 65536
-    by true r o q f = leb-true (length s) 65536 q
-    by false r o q f = absurd (accepted-is-not-refused x r (sym f))

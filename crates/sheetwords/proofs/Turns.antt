@@ -1,16 +1,16 @@
 -- The turns of the loop that fills the buffers, and what it answers.
 use mathlib.Core.Path.{_≡_, refl, sym, ap, ap₂, _∙_, subst, subst₃}
-use mathlib.Core.List.{List, [], _∷_, _++_, append-nil}
-use mathlib.Core.Bool.{Bool, true, false, _&&_, and-false}
+use mathlib.Core.List.{List, []}
+use mathlib.Core.Bool.{Bool, _&&_, and-false}
 use Prim.Native.Nat.{ℕ, _+_, _-_, _≤_, _<_}
 use native.Mathlib.Omega.{arith}
 use lib.Dec.{leb}
 use borrow.Author.Tests.{le-leb, lt-leb}
 use Rattle.refusal.specs.Numbers.{sheet-too-long, buffer-too-small}
-use lib.ListN.{length, replicate, drop, drop-of-length-le}
+use lib.ListN.{length, replicate}
 use Rattle.refusal.specs.declared.Refusal.{Refusal}
-use Rattle.words.specs.declared.Checked.{Checked}
-use Rattle.words.specs.declared.Checked.the-variants.{Accepted, Refused}
+use Rattle.refusal.specs.declared.Checked.{Checked}
+use Rattle.refusal.specs.declared.Checked.the-variants.{Accepted, Refused}
 use Rattle.words.specs.Layout.{wordsOf}
 use Rattle.reader.specs.declared.SheetLiteral.{SheetLiteral}
 use Rattle.reader.specs.declared.Next.{Next}
@@ -18,13 +18,17 @@ use Rattle.reader.specs.declared.Reading.{Reading}
 use Rattle.reader.specs.declared.Reading.the-variants.{End, Refused as ReadRefused, Literal}
 use Rattle.reader.specs.Readings.{readingAt, placeAfter, nextAt}
 use Rattle.reader.proofs.Laws.{literal-read, place-grows, place-inside}
-use Rattle.sheetwords.specs.declared.Counts.{Counts}
-use Rattle.sheetwords.specs.declared.Taken.{Taken}
-use Rattle.sheetwords.specs.declared.Taken.the-variants.{On, Off}
+use Rattle.literals.specs.declared.Counts.{Counts}
+use Rattle.literals.specs.declared.Taken.{Taken}
+use Rattle.literals.specs.declared.Taken.the-variants.{On, Off}
 use Rattle.sheetwords.specs.declared.Filled.{Filled}
 use Rattle.sheetwords.specs.declared.Filled.the-variants.{Read, Refused as NotRead}
-use Rattle.sheetwords.specs.Sheets.{Sofar, Outcome, accepted, refused, nothing, demanding, sheetFrom, sheetOutcome}
-use Rattle.sheetwords.specs.Buffers.{padded, faultIn, atomIn, codeIn, Put, Took, wordsIn, namesIn, answerOf, HeadsIn, FilledBy, ReadInto}
+use Rattle.literals.specs.Literals.{Sofar, nothing}
+use Rattle.sheetwords.specs.Sheets.{Outcome, accepted, refused, sheetFrom, sheetOutcome}
+use Rattle.refusal.specs.Checks.{demanding}
+use Rattle.buffers.specs.Padded.{padded}
+use Rattle.literals.specs.Putting.{faultIn, atomIn, codeIn, Put, Took}
+use Rattle.sheetwords.specs.Filling.{wordsLeft, namesLeft, filledBy, HeadsIn, FilledBy, ReadInto}
 use Rattle.sheetwords.proofs.Filling.{Filling, at-end, at-refusal, at-fault, at-literal}
 
 on-is-not-off : (k : Counts) (x : Refusal) → On k ≡ Off x → ⊥
@@ -51,13 +55,14 @@ name-fits s p next l e is =
     let known = literal-read s p l (read-is s p next (Literal l) e is) in
     (omega (arith, known .sheet-fits, known .named .inside), known .named .at-most-24)
 
-module _ (s : List ℕ) (whole : Outcome) (p : ℕ) (k : Counts) (ws ns heads : List ℕ) (inv : Filling s whole p k ws ns heads) (next : Next) (e : next ≡ nextAt s p) where
+module _ (s : List ℕ) (whole : Outcome) (p : ℕ) (k : Counts) (ws ns heads : List ℕ)
+    (inv : Filling s whole p k ws ns heads) (next : Next) (e : next ≡ nextAt s p) where
   pub ends : next .reading ≡ End → FilledBy whole (Read (k .atoms) (k .words)) ws ns heads
   ends is =
       let done = at-end s whole p k ws ns heads inv (read-is s p next End e is) in
       let same : (x : Sofar) → whole ≡ accepted x → inv .sofar ≡ x = λ x h. accepted-once (inv .sofar) x (sym done ∙ h) in
       record {
-        answer = ap₂ Read (inv .kept .atoms) (inv .kept .words) ∙ ap answerOf (sym done);
+        answer = ap₂ Read (inv .kept .atoms) (inv .kept .words) ∙ ap filledBy (sym done);
         words-are = λ x h. subst (λ (y : Sofar). ws ≡ padded (length ws) (wordsOf (y .rules))) (same x h) (inv .kept .in-words);
         names-are = λ x h. subst (λ (y : Sofar). ns ≡ padded (length ns) (y .names)) (same x h) (inv .kept .in-names);
         heads-are = λ x h. subst (λ (y : Sofar). HeadsIn heads (y .rules)) (same x h) (record { sixteen = inv .kept .heads-16; are = inv .kept .in-heads });
@@ -65,7 +70,7 @@ module _ (s : List ℕ) (whole : Outcome) (p : ℕ) (k : Counts) (ws ns heads : 
 
   pub nothing-filled : (x : Refusal) (ws′ ns′ heads′ : List ℕ) → whole ≡ refused x → FilledBy whole (NotRead x) ws′ ns′ heads′
   nothing-filled x ws′ ns′ heads′ done = record {
-    answer = ap answerOf (sym done);
+    answer = ap filledBy (sym done);
     words-are = λ y h. absurd (accepted-is-not-refused y x (sym h ∙ done));
     names-are = λ y h. absurd (accepted-is-not-refused y x (sym h ∙ done));
     heads-are = λ y h. absurd (accepted-is-not-refused y x (sym h ∙ done));
@@ -102,13 +107,6 @@ module _ (s : List ℕ) (whole : Outcome) (p : ℕ) (k : Counts) (ws ns heads : 
         let lit = read-is s p next (Literal l) e is in
         omega (arith, place-is s p next (Literal l) e is, place-grows s p l lit, place-inside s p l lit)
 
--- clearing a buffer
-pub cleared : (l : List ℕ) (i : ℕ) → length l ≤ i → i ≤ length l → replicate i 0 ++ drop i l ≡ padded (length l) []
-unfolding padded
-cleared l i h h′ =
-    let all : i ≡ length l - 0 = omega arith in
-    ap (λ (t : List ℕ). replicate i 0 ++ t) (drop-of-length-le l h) ∙ append-nil (replicate i 0) ∙ ap (λ (x : ℕ). replicate {A = ℕ} x 0) all
-
 read-is-not-refused : (n w : ℕ) (x : Refusal) → Read n w ≡ NotRead x → ⊥
 read-is-not-refused n w x e = let z : _≡_ {A = ℕ} 0 1 = cc in omega arith
 
@@ -129,34 +127,46 @@ pub nothing-stays : (o : Outcome) (r : Filled) (ws ns heads ws′ ns′ heads′
 unfolding padded
 nothing-stays (accepted sofar) r ws ns heads ws′ ns′ heads′ x room room′ by e h h′ h″ = absurd (read-is-not-refused _ _ x (sym (by .answer) ∙ e))
 nothing-stays (refused y) r ws ns heads ws′ ns′ heads′ x room room′ by e h h′ h″ =
-    record { answer = sym e ∙ by .answer; words-are = h; names-are = h′; heads-are = λ z f. absurd (accepted-is-not-refused z y (sym f)); heads-empty = λ z f. h″ }
+    record {
+      answer = sym e ∙ by .answer;
+      words-are = h;
+      names-are = h′;
+      heads-are = λ z f. absurd (accepted-is-not-refused z y (sym f));
+      heads-empty = λ z f. h″;
+    }
 
 -- 8 and 9
 refused-into : (x : Refusal) (room room′ : ℕ) (ws ns heads : List ℕ) (o : Outcome) → o ≡ refused x → ws ≡ padded room [] → ns ≡ padded room′ []
     → heads ≡ replicate 16 0 → ReadInto o room room′ (NotRead x) ws ns heads
 refused-into x room room′ ws ns heads o e h h′ h″ = record {
-  answer = ap answerOf (sym e);
-  words-are = h ∙ ap (λ (y : Outcome). padded room (wordsIn y)) (sym e);
-  names-are = h′ ∙ ap (λ (y : Outcome). padded room′ (namesIn y)) (sym e);
+  answer = ap filledBy (sym e);
+  words-are = h ∙ ap (λ (y : Outcome). padded room (wordsLeft y)) (sym e);
+  names-are = h′ ∙ ap (λ (y : Outcome). padded room′ (namesLeft y)) (sym e);
   heads-are = λ y f. absurd (accepted-is-not-refused y x (sym f ∙ e));
   heads-empty = λ y f. h″;
 }
 
 module _ (s : List ℕ) (room room′ : ℕ) (ws ns heads : List ℕ) where
-  pub long-sheet : 65536 < length s → ws ≡ padded room [] → ns ≡ padded room′ [] → heads ≡ replicate 16 0 → ReadInto (sheetOutcome s room room′) room room′ (NotRead sheet-too-long) ws ns heads
+  pub long-sheet : 65536 < length s → ws ≡ padded room [] → ns ≡ padded room′ [] → heads ≡ replicate 16 0
+      → ReadInto (sheetOutcome s room room′) room room′ (NotRead sheet-too-long) ws ns heads
   unfolding sheetOutcome
   long-sheet h = refused-into sheet-too-long room room′ ws ns heads _
-      (ap (λ (b : Bool). demanding b sheet-too-long (demanding (leb 8192 room && leb 512 room′) buffer-too-small (sheetFrom (length s + 1) s 0 nothing))) (lt-leb (length s) 65536 h))
+      (ap (λ (b : Bool). demanding refused b sheet-too-long
+      (demanding refused (leb 8192 room && leb 512 room′) buffer-too-small (sheetFrom (length s + 1) s 0 nothing))) (lt-leb (length s) 65536 h))
 
-  pub short-words : length s ≤ 65536 → room < 8192 → ws ≡ padded room [] → ns ≡ padded room′ [] → heads ≡ replicate 16 0 → ReadInto (sheetOutcome s room room′) room room′ (NotRead buffer-too-small) ws ns heads
+  pub short-words : length s ≤ 65536 → room < 8192 → ws ≡ padded room [] → ns ≡ padded room′ []
+      → heads ≡ replicate 16 0 → ReadInto (sheetOutcome s room room′) room room′ (NotRead buffer-too-small) ws ns heads
   unfolding sheetOutcome
   short-words h h′ = refused-into buffer-too-small room room′ ws ns heads _
-      (ap₂ (λ (b b′ : Bool). demanding b sheet-too-long (demanding (b′ && leb 512 room′) buffer-too-small (sheetFrom (length s + 1) s 0 nothing))) (le-leb (length s) 65536 h) (lt-leb 8192 room h′))
+      (ap₂ (λ (b b′ : Bool). demanding refused b sheet-too-long
+      (demanding refused (b′ && leb 512 room′) buffer-too-small (sheetFrom (length s + 1) s 0 nothing))) (le-leb (length s) 65536 h) (lt-leb 8192 room h′))
 
-  pub short-names : length s ≤ 65536 → room′ < 512 → ws ≡ padded room [] → ns ≡ padded room′ [] → heads ≡ replicate 16 0 → ReadInto (sheetOutcome s room room′) room room′ (NotRead buffer-too-small) ws ns heads
+  pub short-names : length s ≤ 65536 → room′ < 512 → ws ≡ padded room [] → ns ≡ padded room′ []
+      → heads ≡ replicate 16 0 → ReadInto (sheetOutcome s room room′) room room′ (NotRead buffer-too-small) ws ns heads
   unfolding sheetOutcome
   short-names h h′ = refused-into buffer-too-small room room′ ws ns heads _
-      (ap₂ (λ (b b′ : Bool). demanding b sheet-too-long (demanding b′ buffer-too-small (sheetFrom (length s + 1) s 0 nothing))) (le-leb (length s) 65536 h)
+      (ap₂ (λ (b b′ : Bool). demanding refused b sheet-too-long (demanding refused b′ buffer-too-small (sheetFrom (length s + 1) s 0 nothing)))
+      (le-leb (length s) 65536 h)
       (ap (λ (b : Bool). leb 8192 room && b) (lt-leb 512 room′ h′) ∙ and-false (leb 8192 room)))
 
   pub read-on : (r : Filled) (n n′ : ℕ) → n ≡ room → n′ ≡ room′ → length s ≤ 65536 → 8192 ≤ n → 512 ≤ n′
@@ -164,5 +174,6 @@ module _ (s : List ℕ) (room room′ : ℕ) (ws ns heads : List ℕ) where
   unfolding sheetOutcome
   read-on r n n′ e e′ h h′ h″ into =
       subst₃ (λ (o : Outcome) (x y : ℕ). ReadInto o x y r ws ns heads)
-      (sym (ap₂ (λ (b b′ : Bool). demanding b sheet-too-long (demanding b′ buffer-too-small (sheetFrom (length s + 1) s 0 nothing))) (le-leb (length s) 65536 h)
+      (sym (ap₂ (λ (b b′ : Bool). demanding refused b sheet-too-long (demanding refused b′ buffer-too-small (sheetFrom (length s + 1) s 0 nothing)))
+      (le-leb (length s) 65536 h)
       (ap₂ (λ (b b′ : Bool). b && b′) (le-leb 8192 room (omega arith)) (le-leb 512 room′ (omega arith))))) e e′ into

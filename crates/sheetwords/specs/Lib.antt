@@ -1,2 +1,2 @@
 pub mod Sheets
-pub mod Buffers
+pub mod Filling

@@ -1,4 +1,4 @@
--- How many bytes a read brings, and the room for them.
+-- Stage: how many bytes a read brings, and the room for them.
 use mathlib.Core.List.{List}
 use Prim.Native.Nat.{ℕ, _≤_, _<_, _+_}
 use Rattle.io.specs.Counts.{Counts}

@@ -2,7 +2,7 @@ use libc::STDIN_FILENO;
 use libc::STDOUT_FILENO;
 use refusal::Refusal;
 use sheets::SheetAnswer;
-ghost use Prim.Native.Nat.{ℕ, _≤_, _+_};
+ghost use Prim.Native.Nat.{_≤_};
 ghost use lib.ListN.{length};
 ghost use Rattle.simmer.specs.Rooms.{Arrived, Holds};
 
@@ -63,9 +63,9 @@ fn write_refusal(r: Refusal) -> bool {
 
 // The value sheet, of at most 512 lines of 27 bytes, or the refusal line; whether all of it was written.
 fn write_answer(sheet: &[u8]) -> bool {
-    let mut words = [0u16; 8192];
-    let mut names = [0u32; 512];
-    let mut text = [0u8; 13824];
+    let mut words = [0u16; limits::MOST_WORDS];
+    let mut names = [0u32; limits::MOST_ATOMS];
+    let mut text = [0u8; limits::MOST_ATOMS * (limits::MOST_NAME_BYTES + 3)];
     match sheets::read_sheet(sheet, &mut words, &mut names, &mut text) {
         SheetAnswer::Accepted(c) => {
             let bytes = c.bytes;
@@ -83,7 +83,7 @@ fn answer_sheet(sheet: &[u8]) {
 
 // A sheet of 65,536 bytes is read whole; one byte more tells a sheet that is too long.
 fn main() {
-    let mut sheet = [0u8; 65537];
+    let mut sheet = [0u8; limits::MOST_SHEET_BYTES + 1];
     match read_input(&mut sheet) {
         Input::Whole(n) => answer_sheet(&sheet[..n]),
         Input::Failed => os::fail(b"simmer: cannot read standard input"),

@@ -8,19 +8,19 @@ use lib.ListN.{getD}
 use borrow.Author.Tests.{le-leb, lt-leb}
 use Rattle.paper.specs.Table1.{Value, 𝐟, 𝐮, 𝐢, 𝐭, code, _and_, _or_, not′, _implies_, Row, column, implication}
 use Rattle.refusal.specs.Numbers.{not-a-truth-code}
-use Rattle.truth.specs.declared.Truth.{Truth}
-use Rattle.truth.specs.declared.Truth.the-variants.{Code, Refused}
+use Rattle.refusal.specs.declared.Numbered.{Numbered}
+use Rattle.refusal.specs.declared.Numbered.the-variants.{Number, Refused}
 use Rattle.truth.specs.Connectives.{withValue, conjunction, disjunction, negated, implied}
 
 -- the code of a value gives the value back
-withValue-code : (a : Value) (f : Value → Truth) → withValue (code a) f ≡ f a
+withValue-code : (a : Value) (f : Value → Numbered) → withValue (code a) f ≡ f a
 unfolding withValue
 withValue-code 𝐟 f = refl
 withValue-code 𝐮 f = refl
 withValue-code 𝐢 f = refl
 withValue-code 𝐭 f = refl
 
-withValue-above : (v : ℕ) (f : Value → Truth) → 3 < v → withValue v f ≡ Refused not-a-truth-code
+withValue-above : (v : ℕ) (f : Value → Numbered) → 3 < v → withValue v f ≡ Refused not-a-truth-code
 unfolding withValue
 withValue-above zero f h = absurd (omega arith)
 withValue-above (suc zero) f h = absurd (omega arith)
@@ -28,7 +28,7 @@ withValue-above (suc (suc zero)) f h = absurd (omega arith)
 withValue-above (suc (suc (suc zero))) f h = absurd (omega arith)
 withValue-above (suc (suc (suc (suc n)))) f h = refl
 
-withValue-refused : (v : ℕ) (f : Value → Truth) → ((a : Value) → f a ≡ Refused not-a-truth-code) → withValue v f ≡ Refused not-a-truth-code
+withValue-refused : (v : ℕ) (f : Value → Numbered) → ((a : Value) → f a ≡ Refused not-a-truth-code) → withValue v f ≡ Refused not-a-truth-code
 unfolding withValue
 withValue-refused zero f h = h 𝐟
 withValue-refused (suc zero) f h = h 𝐮
@@ -46,54 +46,54 @@ value-of (suc (suc (suc (suc n)))) h = absurd (omega arith)
 
 -- ---- Table 1
 
-pub not-is-table-1 : (a : Value) → negated (code a) ≡ Code (code (not′ a))
-not-is-table-1 a = withValue-code a (λ x. Code (code (not′ x)))
+pub not-is-table-1 : (a : Value) → negated (code a) ≡ Number (code (not′ a))
+not-is-table-1 a = withValue-code a (λ x. Number (code (not′ x)))
 
 -- a connective of two values
 module _ (f : Value → Value → Value) where
-  both-codes : (a b : Value) → withValue (code a) (λ x. withValue (code b) (λ y. Code (code (f x y)))) ≡ Code (code (f a b))
-  both-codes a b = withValue-code a (λ x. withValue (code b) (λ y. Code (code (f x y)))) ∙ withValue-code b (λ y. Code (code (f a y)))
+  both-codes : (a b : Value) → withValue (code a) (λ x. withValue (code b) (λ y. Number (code (f x y)))) ≡ Number (code (f a b))
+  both-codes a b = withValue-code a (λ x. withValue (code b) (λ y. Number (code (f x y)))) ∙ withValue-code b (λ y. Number (code (f a y)))
 
   -- a number that is the code of f at the two values is the answer
   answers : (v w u : ℕ) → v ≤ 3 → w ≤ 3 → ((a b : Value) → code a ≡ v → code b ≡ w → u ≡ code (f a b))
-      → Code u ≡ withValue v (λ x. withValue w (λ y. Code (code (f x y))))
+      → Number u ≡ withValue v (λ x. withValue w (λ y. Number (code (f x y))))
   answers v w u hv hw h =
       let a = value-of v hv in
       let b = value-of w hw in
-      ap Code (h (a .0) (b .0) (a .1) (b .1)) ∙ sym (both-codes (a .0) (b .0))
-      ∙ ap₂ (λ (m n : ℕ). withValue m (λ x. withValue n (λ y. Code (code (f x y))))) (a .1) (b .1)
+      ap Number (h (a .0) (b .0) (a .1) (b .1)) ∙ sym (both-codes (a .0) (b .0))
+      ∙ ap₂ (λ (m n : ℕ). withValue m (λ x. withValue n (λ y. Number (code (f x y))))) (a .1) (b .1)
 
-  pub first-refused : (v w : ℕ) → 3 < v → Refused not-a-truth-code ≡ withValue v (λ x. withValue w (λ y. Code (code (f x y))))
-  first-refused v w h = sym (withValue-above v (λ x. withValue w (λ y. Code (code (f x y)))) h)
+  pub first-refused : (v w : ℕ) → 3 < v → Refused not-a-truth-code ≡ withValue v (λ x. withValue w (λ y. Number (code (f x y))))
+  first-refused v w h = sym (withValue-above v (λ x. withValue w (λ y. Number (code (f x y)))) h)
 
-  pub second-refused : (v w : ℕ) → 3 < w → Refused not-a-truth-code ≡ withValue v (λ x. withValue w (λ y. Code (code (f x y))))
+  pub second-refused : (v w : ℕ) → 3 < w → Refused not-a-truth-code ≡ withValue v (λ x. withValue w (λ y. Number (code (f x y))))
   second-refused v w h =
-      sym (withValue-refused v (λ x. withValue w (λ y. Code (code (f x y)))) (λ a. withValue-above w (λ y. Code (code (f a y))) h))
+      sym (withValue-refused v (λ x. withValue w (λ y. Number (code (f x y)))) (λ a. withValue-above w (λ y. Number (code (f a y))) h))
 
-pub and-is-table-1 : (a b : Value) → conjunction (code a) (code b) ≡ Code (code (a and b))
+pub and-is-table-1 : (a b : Value) → conjunction (code a) (code b) ≡ Number (code (a and b))
 and-is-table-1 = both-codes _and_
 
-pub or-is-table-1 : (a b : Value) → disjunction (code a) (code b) ≡ Code (code (a or b))
+pub or-is-table-1 : (a b : Value) → disjunction (code a) (code b) ≡ Number (code (a or b))
 or-is-table-1 = both-codes _or_
 
-pub implication-is-table-1 : (a b : Value) → implied (code a) (code b) ≡ Code (code (a implies b))
+pub implication-is-table-1 : (a b : Value) → implied (code a) (code b) ≡ Number (code (a implies b))
 implication-is-table-1 = both-codes _implies_
 
 -- ---- what the code computes
 
-pub smaller-left : (v w : ℕ) → v ≤ 3 → w ≤ 3 → v ≤ w → Code v ≡ conjunction v w
+pub smaller-left : (v w : ℕ) → v ≤ 3 → w ≤ 3 → v ≤ w → Number v ≡ conjunction v w
 smaller-left v w hv hw h =
     answers _and_ v w v hv hw (λ a b p q. sym (ap (λ (t : Bool). code (cond t a b)) (le-leb (code a) (code b) (omega arith)) ∙ p))
 
-pub smaller-right : (v w : ℕ) → v ≤ 3 → w ≤ 3 → w < v → Code w ≡ conjunction v w
+pub smaller-right : (v w : ℕ) → v ≤ 3 → w ≤ 3 → w < v → Number w ≡ conjunction v w
 smaller-right v w hv hw h =
     answers _and_ v w w hv hw (λ a b p q. sym (ap (λ (t : Bool). code (cond t a b)) (lt-leb (code a) (code b) (omega arith)) ∙ q))
 
-pub larger-right : (v w : ℕ) → v ≤ 3 → w ≤ 3 → v ≤ w → Code w ≡ disjunction v w
+pub larger-right : (v w : ℕ) → v ≤ 3 → w ≤ 3 → v ≤ w → Number w ≡ disjunction v w
 larger-right v w hv hw h =
     answers _or_ v w w hv hw (λ a b p q. sym (ap (λ (t : Bool). code (cond t b a)) (le-leb (code a) (code b) (omega arith)) ∙ q))
 
-pub larger-left : (v w : ℕ) → v ≤ 3 → w ≤ 3 → w < v → Code v ≡ disjunction v w
+pub larger-left : (v w : ℕ) → v ≤ 3 → w ≤ 3 → w < v → Number v ≡ disjunction v w
 larger-left v w hv hw h =
     answers _or_ v w v hv hw (λ a b p q. sym (ap (λ (t : Bool). code (cond t b a)) (lt-leb (code a) (code b) (omega arith)) ∙ p))
 
@@ -104,14 +104,14 @@ not-code 𝐮 h k = refl
 not-code 𝐢 h k = refl
 not-code 𝐭 h k = absurd (k refl)
 
-pub kept : (v : ℕ) → v ≤ 3 → (v ≡ 0 → ⊥) → (v ≡ 3 → ⊥) → Code v ≡ negated v
+pub kept : (v : ℕ) → v ≤ 3 → (v ≡ 0 → ⊥) → (v ≡ 3 → ⊥) → Number v ≡ negated v
 kept v hv h k =
     let a = value-of v hv in
-    ap Code (sym (not-code (a .0) (λ e. h (sym (a .1) ∙ e)) (λ e. k (sym (a .1) ∙ e)) ∙ a .1))
+    ap Number (sym (not-code (a .0) (λ e. h (sym (a .1) ∙ e)) (λ e. k (sym (a .1) ∙ e)) ∙ a .1))
     ∙ sym (not-is-table-1 (a .0)) ∙ ap negated (a .1)
 
 pub not-refused : (v : ℕ) → 3 < v → Refused not-a-truth-code ≡ negated v
-not-refused v h = sym (withValue-above v (λ x. Code (code (not′ x))) h)
+not-refused v h = sym (withValue-above v (λ x. Number (code (not′ x))) h)
 
 -- four codes of a row
 abbrev rowCodes : Row → List ℕ
@@ -134,12 +134,12 @@ row-codes 𝐢 = refl
 row-codes 𝐭 = refl
 
 -- the table looked up by body and then by head
-pub looked-up : (v w : ℕ) → v ≤ 3 → w ≤ 3 → Code (getD (getD table v []) w 0) ≡ implied v w
+pub looked-up : (v w : ℕ) → v ≤ 3 → w ≤ 3 → Number (getD (getD table v []) w 0) ≡ implied v w
 looked-up v w hv hw =
     answers _implies_ v w (getD (getD table v []) w 0) hv hw
     (λ a b p q. ap₂ (λ (m n : ℕ). getD (getD table m []) n 0) (sym p) (sym q)
     ∙ ap (λ (r : List ℕ). getD r (code b) 0) (row-codes a) ∙ column-code (implication a) b)
 
 -- two answers that a promise allows are equal
-pub one-answer : {r r′ t : Truth} → r ≡ t → r′ ≡ t → r ≡ r′
+pub one-answer : {r r′ t : Numbered} → r ≡ t → r′ ≡ t → r ≡ r′
 one-answer e e′ = e ∙ sym e′

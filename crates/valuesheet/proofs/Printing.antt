@@ -1,21 +1,21 @@
 -- Printing the value sheet line by line, a byte at a time.
-use mathlib.Core.Path.{_≡_, refl, sym, ap, ap₂, _∙_, subst}
+use mathlib.Core.Path.{_≡_, refl, sym, ap, ap₂, _∙_}
 use mathlib.Core.List.{List, [], _∷_, _++_}
 use mathlib.Core.Bool.{Bool, true, false, cond}
-use Prim.Native.Nat.{ℕ, zero, suc, _+_, _-_, _*_, _%_, _<_, _≤_}
+use Prim.Native.Nat.{ℕ, zero, suc, _+_, _-_, _%_, _<_, _≤_}
 use native.Mathlib.Nat.{zero-add}
 use native.Mathlib.Numerals.{add-one}
 use native.Mathlib.Omega.{arith}
-use lib.Dec.{leb}
-use lib.ListN.{length, getD, take, drop, set, length-append, drop-of-length-le, length-set}
-use lib.Seq.{sets, sets-eq, length-sets, drop-cons, getD-take, length-take-le}
+use lib.ListN.{length, getD, take, drop, set, length-append, drop-of-length-le}
+use lib.Seq.{sets, sets-eq, drop-cons, getD-take, length-take-le}
 use borrow.Author.Tests.{le-leb, lt-leb}
 use Rattle.refusal.specs.Numbers.{text-room-too-small}
 use Rattle.reader.specs.Sheet.{byteAt}
-use Rattle.names.specs.Names.{bytesAt, nameOf, lengthOf}
+use Rattle.names.specs.Names.{bytesAt, nameOf}
 use Rattle.names.proofs.Steps.{length-bytesAt, bytes-cons}
 use Rattle.valuesheet.specs.declared.Printed.the-variants.{Whole, Refused}
-use Rattle.valuesheet.specs.ValueSheet.{letterOf, lineFor, lineIf, hasLine, linesFrom, valueSheet, lineBytes, bytesFrom, printing, textAfter}
+use Rattle.valuesheet.specs.ValueSheet.{letterOf, lineFor, lineIf, hasLine, linesFrom}
+use Rattle.valuesheet.specs.Fitting.{lineBytes, bytesFrom, printing, textAfter}
 
 pub letter-t : (v : ℕ) → (v ≡ 0 → ⊥) → (v ≡ 1 → ⊥) → (v ≡ 2 → ⊥) → 116 ≡ letterOf v
 unfolding letterOf
@@ -93,7 +93,8 @@ bytes-of heads a es h =
     ∙ ap (λ (x : ℕ). lineBytes (hasLine heads a) (getD es a 0) + bytesFrom heads x (drop x es)) (sym (add-one a))
 
 -- one name of the first n
-module _ (heads : ℕ → Bool) (names : List ℕ) (n a : ℕ) (fits : n ≤ length names) (here : a < n) (shown : Bool) (e : ℕ) (is : shown ≡ hasLine heads a) (entry : e ≡ getD names a 0) where
+module _ (heads : ℕ → Bool) (names : List ℕ) (n a : ℕ) (fits : n ≤ length names) (here : a < n)
+    (shown : Bool) (e : ℕ) (is : shown ≡ hasLine heads a) (entry : e ≡ getD names a 0) where
   inside : a < length (take n names)
   inside = omega (arith, length-take-le n names fits)
 
@@ -114,7 +115,8 @@ module _ (heads : ℕ → Bool) (names : List ℕ) (n a : ℕ) (fits : n ≤ len
       let rest = linesFrom s heads values (a + 1) (drop (a + 1) (take n names)) in
       ap₂ (λ (u : List ℕ) (x : ℕ). sets u (at + x) rest) put (l ∙ sym (length-line shown s e v))
       ∙ sym (sets-append t at (lineIf shown s e v) rest)
-      ∙ ap (λ (u : List ℕ). sets t at (u ++ rest)) (ap₂ (λ (b : Bool) (x : ℕ). lineIf b s x v) is (sym entry-is) ∙ ap (lineIf (hasLine heads a) s (getD (take n names) a 0)) val)
+      ∙ ap (λ (u : List ℕ). sets t at (u ++ rest))
+      (ap₂ (λ (b : Bool) (x : ℕ). lineIf b s x v) is (sym entry-is) ∙ ap (lineIf (hasLine heads a) s (getD (take n names) a 0)) val)
       ∙ ap (sets t at) (sym (lines-cons s heads values a (take n names) inside))
 
 -- past the last name
@@ -122,9 +124,11 @@ pub no-bytes : (heads : ℕ → Bool) (names : List ℕ) (n a : ℕ) → n ≤ l
 unfolding bytesFrom
 no-bytes heads names n a fits h = ap (bytesFrom heads a) (drop-of-length-le (take n names) {i = a} (omega (arith, length-take-le n names fits)))
 
-pub no-lines : (s : List ℕ) (heads : ℕ → Bool) (values : ℕ → ℕ) (names : List ℕ) (n a : ℕ) → n ≤ length names → n ≤ a → linesFrom s heads values a (drop a (take n names)) ≡ []
+pub no-lines : (s : List ℕ) (heads : ℕ → Bool) (values : ℕ → ℕ) (names : List ℕ) (n a : ℕ)
+    → n ≤ length names → n ≤ a → linesFrom s heads values a (drop a (take n names)) ≡ []
 unfolding linesFrom
-no-lines s heads values names n a fits h = ap (linesFrom s heads values a) (drop-of-length-le (take n names) {i = a} (omega (arith, length-take-le n names fits)))
+no-lines s heads values names n a fits h =
+    ap (linesFrom s heads values a) (drop-of-length-le (take n names) {i = a} (omega (arith, length-take-le n names fits)))
 
 -- what printing leaves
 pub does-not-fit : (out text : List ℕ) (needed : ℕ) → needed ≡ length out → length text < needed

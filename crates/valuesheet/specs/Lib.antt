@@ -1,1 +1,2 @@
 pub mod ValueSheet
+pub mod Fitting

@@ -1,14 +1,9 @@
--- Document 01, "Rule sheet": the value sheet, and what printing it into a text room leaves there.
+-- Believed: the value sheet.
 use mathlib.Core.List.{List, [], _∷_, _++_}
 use mathlib.Core.Bool.{Bool, cond, _||_}
-use Prim.Native.Nat.{ℕ, zero, suc, _+_}
-use lib.Dec.{leb}
-use lib.ListN.{length, drop}
+use Prim.Native.Nat.{ℕ, zero, suc}
 use Rattle.paper.specs.Rules.{positive, negative}
-use Rattle.refusal.specs.Numbers.{text-room-too-small}
-use Rattle.names.specs.Names.{nameOf, lengthOf}
-use Rattle.valuesheet.specs.declared.Printed.{Printed}
-use Rattle.valuesheet.specs.declared.Printed.the-variants.{Whole, Refused}
+use Rattle.names.specs.Names.{nameOf}
 
 -- one letter f, u, i or t, by truth code
 unfoldable pub letterOf : ℕ → ℕ
@@ -36,19 +31,3 @@ linesFrom s heads values a (e ∷ names) = lineIf (hasLine heads a) s e (values 
 -- the value sheet: sheet, heads of its rules, truth codes of its atoms, name entries
 abbrev pub valueSheet : List ℕ → (ℕ → Bool) → (ℕ → ℕ) → List ℕ → List ℕ
 valueSheet s heads values names = linesFrom s heads values 0 names
-
--- the bytes that it needs
-abbrev pub lineBytes : Bool → ℕ → ℕ
-lineBytes shown e = cond shown (lengthOf e + 3) 0
-
-unfoldable pub bytesFrom : (ℕ → Bool) → ℕ → List ℕ → ℕ
-bytesFrom heads a [] = 0
-bytesFrom heads a (e ∷ names) = lineBytes (hasLine heads a) e + bytesFrom heads (suc a) names
-
--- the answer: its length, or that it does not fit
-unfoldable pub printing : List ℕ → ℕ → Printed
-printing out room = cond (leb (length out) room) (Whole (length out)) (Refused (text-room-too-small (length out)))
-
--- the text room afterwards: bytes past the value sheet are untouched, and all of them where it does not fit
-unfoldable pub textAfter : List ℕ → List ℕ → List ℕ
-textAfter out text = cond (leb (length out) (length text)) (out ++ drop (length out) text) text

@@ -1,12 +1,14 @@
 use refusal::Refusal;
 ghost use mathlib.Core.Path.{_≡_};
 ghost use mathlib.Core.Bool.{Bool};
-ghost use Prim.Native.Nat.{ℕ, _+_, _*_, _<_, _≤_, _^_};
+ghost use Prim.Native.Nat.{_+_, _*_, _<_, _≤_, _^_};
 ghost use lib.ListN.{length, getD, take, set};
 ghost use lib.Seq.{sets};
+ghost use Rattle.limits.specs.Limits.{mostAtoms};
 ghost use Rattle.bits.specs.Sets.{member};
 ghost use Rattle.names.specs.Names.{bytesAt};
-ghost use Rattle.valuesheet.specs.ValueSheet.{letterOf, lineFor, lineIf, lineBytes, hasLine, bytesFrom, valueSheet, printing, textAfter};
+ghost use Rattle.valuesheet.specs.ValueSheet.{letterOf, lineFor, lineIf, hasLine, valueSheet};
+ghost use Rattle.valuesheet.specs.Fitting.{lineBytes, bytesFrom, printing, textAfter};
 
 // What printing answers: the bytes written, or that they do not fit.
 pub enum Printed {
@@ -30,7 +32,7 @@ fn letter(v: u8) -> u8
 }
 
 fn has_line(heads: &[u64], a: usize) -> bool
-    requires { ⌜ a ≤ 512 ⌝ }
+    requires { ⌜ a ≤ mostAtoms ⌝ }
     ensures { λ r. ⌜ r ≡ hasLine (member (now (heads .entry))) a ⌝ }
 {
     if bits::has(heads, 2 * a) {
@@ -49,7 +51,7 @@ fn line_bytes(shown: bool, e: usize) -> usize
 
 // The bytes that the value sheet of `n` names needs.
 fn bytes_needed(names: &[u32], n: usize, heads: &[u64]) -> usize
-    requires { ⌜ n ≤ 512 ⌝ }
+    requires { ⌜ n ≤ mostAtoms ⌝ }
     requires { ⌜ n ≤ length (now names) ⌝ }
     ensures { λ r. ⌜ r ≡ bytesFrom (member (now (heads .entry))) 0 (take n (now (names .entry))) ⌝ }
 {
@@ -108,7 +110,7 @@ fn put_line_if(shown: bool, sheet: &[u8], e: usize, v: u8, text: &mut [u8], at: 
 }
 
 fn put_lines(sheet: &[u8], names: &[u32], n: usize, heads: &[u64], values: &[u8], text: &mut [u8])
-    requires { ⌜ n ≤ 512 ⌝ }
+    requires { ⌜ n ≤ mostAtoms ⌝ }
     requires { ⌜ n ≤ length (now names) ⌝ }
     requires { ⌜ bytesFrom (member (now heads)) 0 (take n (now names)) ≤ length (now text) ⌝ }
     ensures { λ _. ⌜ now (text .exit) ≡ sets (now (text .entry)) 0 (valueSheet (now (sheet .entry)) (member (now (heads .entry))) (λ a. getD (now (values .entry)) a 0) (take n (now (names .entry)))) ⌝ }
@@ -134,7 +136,7 @@ pub fn print(
     values: &[u8],
     text: &mut [u8],
 ) -> Printed
-    requires { ⌜ n ≤ 512 ⌝ }
+    requires { ⌜ n ≤ mostAtoms ⌝ }
     requires { ⌜ n ≤ length (now names) ⌝ }
     ensures { λ r. ⌜ r ≡ printing (valueSheet (now (sheet .entry)) (member (now (heads .entry))) (λ a. getD (now (values .entry)) a 0) (take n (now (names .entry)))) (length (now (text .entry))) ⌝ }
     ensures { λ _. ⌜ now (text .exit) ≡ textAfter (valueSheet (now (sheet .entry)) (member (now (heads .entry))) (λ a. getD (now (values .entry)) a 0) (take n (now (names .entry)))) (now (text .entry)) ⌝ }

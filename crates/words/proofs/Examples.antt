@@ -2,7 +2,7 @@
 use mathlib.Core.Path.{_≡_, refl}
 use mathlib.Core.List.{[], _∷_}
 use Rattle.refusal.specs.Numbers.{too-many-atoms, cut-short, not-a-literal, wrong-length, second-rule}
-use Rattle.words.specs.declared.Checked.the-variants.{Accepted, Refused}
+use Rattle.refusal.specs.declared.Checked.the-variants.{Accepted, Refused}
 use Rattle.words.specs.Layout.{rulesOf, rulesWithin, takeGroups, dropGroups}
 use Rattle.words.specs.Check.{walk, tableCheck}
 

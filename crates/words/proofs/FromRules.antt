@@ -5,20 +5,21 @@ use mathlib.Core.Bool.{Bool, false, not, _&&_}
 use Prim.Native.Nat.{ℕ, suc, _*_, _≤_, _<_, zero-le}
 use lib.ListN.{length}
 use borrow.Author.Tests.{lt-ltb, le-leb}
-use Rattle.paper.specs.Rules.{Rule, _∈_}
+use Rattle.paper.specs.Rules.{Rule}
+use Rattle.sets.specs.Sets.{_∈_, _with_}
 use Rattle.refusal.specs.Numbers.{not-a-literal, wrong-length, second-rule}
-use Rattle.bits.specs.Sets.{_with_}
-use Rattle.words.specs.declared.Checked.{Checked}
-use Rattle.words.specs.declared.Checked.the-variants.{Accepted}
+use Rattle.refusal.specs.declared.Checked.{Checked}
+use Rattle.refusal.specs.declared.Checked.the-variants.{Accepted}
 use Rattle.words.specs.declared.Due.the-variants.{Head, Count, Size, Literal}
 use Rattle.words.specs.Layout.{groupsWords, wordsOf}
-use Rattle.words.specs.Check.{asking, orElse, literalFault, lengthFault, fault, groupsDue, literalsDue, walk}
-use Rattle.words.specs.Limits.{GroupWithin}
+use Rattle.refusal.specs.Checks.{asking, orElse}
+use Rattle.words.specs.Check.{codeFault, lengthFault, fault, groupsDue, literalsDue, walk}
+use Rattle.words.specs.Within.{GroupWithin}
 use Rattle.words.proofs.Steps.{walk-faultless}
 use Rattle.words.proofs.Good.{Good}
 
-literal-faultless : (N p w : ℕ) → w < 2 * N → literalFault N p w ≡ Accepted
-literal-faultless N p w h = ap (λ (b : Bool). asking b (not-a-literal p) Accepted) (lt-ltb w (2 * N) h)
+code-faultless : (N p w : ℕ) → w < 2 * N → codeFault N p w ≡ Accepted
+code-faultless N p w h = ap (λ (b : Bool). asking b (not-a-literal p) Accepted) (lt-ltb w (2 * N) h)
 
 length-faultless : (least p w : ℕ) → least ≤ w → w ≤ 64 → lengthFault least p w ≡ Accepted
 length-faultless least p w h h′ =
@@ -26,14 +27,14 @@ length-faultless least p w h h′ =
 
 head-faultless : (N : ℕ) (seen : ℕ → Bool) (p w : ℕ) → w < 2 * N → seen w ≡ false → fault N seen Head p w ≡ Accepted
 head-faultless N seen p w h e =
-    ap₂ (λ (c : Checked) (b : Bool). orElse c (asking (not b) (second-rule p) Accepted)) (literal-faultless N p w h) e
+    ap₂ (λ (c : Checked) (b : Bool). orElse c (asking (not b) (second-rule p) Accepted)) (code-faultless N p w h) e
 
 module _ (N : ℕ) (seen : ℕ → Bool) (rest : List ℕ) where
   accept-literals : (β : List ℕ) (g p : ℕ) → ((l : ℕ) → l ∈ β → l < 2 * N)
       → ((q : ℕ) → walk N seen (groupsDue g) q rest ≡ Accepted) → walk N seen (literalsDue (length β) g) p (β ++ rest) ≡ Accepted
   accept-literals [] g p below onward = onward p
   accept-literals (w ∷ β) g p below onward =
-      walk-faultless N seen (Literal (length β) g) p w (β ++ rest) (literal-faultless N p w (below w (List·Memᴰ·head refl)))
+      walk-faultless N seen (Literal (length β) g) p w (β ++ rest) (code-faultless N p w (below w (List·Memᴰ·head refl)))
       ∙ accept-literals β g (suc p) (λ l m. below l (List·Memᴰ·tail m)) onward
 
 accept-groups : (N : ℕ) (seen : ℕ → Bool) (rest : List ℕ) (βs : List (List ℕ)) (p : ℕ) → ((β : List ℕ) → β ∈ βs → GroupWithin N β)

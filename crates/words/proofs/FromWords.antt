@@ -2,41 +2,40 @@
 use mathlib.Core.Path.{_≡_, refl, sym, ap, ap₂, _∙_, subst}
 use mathlib.Core.Logic.{⊎-elim}
 use mathlib.Core.List.{List, [], _∷_, _++_, append-assoc, List·Memᴰ·not-nil, List·Memᴰ·cases-cons}
-use mathlib.Core.Bool.{Bool, true, false, not, _&&_, true≢false}
+use mathlib.Core.Bool.{Bool, false, not, _&&_}
 use Prim.Native.Nat.{ℕ, zero, suc, _*_, _≤_, _<_}
 use native.Mathlib.Nat.{not-suc-le-zero}
 use native.Mathlib.Omega.{arith}
 use lib.Dec.{ltb, leb}
 use lib.ListN.{length, length-append}
 use borrow.Author.Tests.{ltb-true, leb-true, not-true}
-use Rattle.paper.specs.Rules.{Rule, _∈_}
+use Rattle.sets.proofs.Tests.{and-both}
+use Rattle.paper.specs.Rules.{Rule}
+use Rattle.sets.specs.Sets.{_∈_, _with_}
 use Rattle.refusal.specs.Numbers.{cut-short, wrong-length, second-rule}
-use Rattle.bits.specs.Sets.{_with_}
-use Rattle.words.specs.declared.Checked.the-variants.{Accepted}
+use Rattle.refusal.specs.declared.Checked.the-variants.{Accepted}
 use Rattle.words.specs.declared.Due.the-variants.{Head, Count}
 use Rattle.words.specs.Layout.{groupsWords, wordsOf}
-use Rattle.words.specs.Check.{asking, literalFault, lengthFault, fault, groupsDue, literalsDue, walk}
-use Rattle.words.specs.Limits.{GroupWithin}
-use Rattle.words.proofs.Steps.{refused-is-not-accepted, asking-accepted, orElse-accepted, head-below}
+use Rattle.refusal.specs.Checks.{asking}
+use Rattle.words.specs.Check.{codeFault, lengthFault, fault, groupsDue, literalsDue, walk}
+use Rattle.words.specs.Within.{GroupWithin}
+use Rattle.refusal.proofs.Laws.{refused≢accepted, asking-accepted, orElse-accepted}
+use Rattle.words.proofs.Steps.{head-below}
 use Rattle.words.proofs.Good.{Good}
 
-literal-below : (N p w : ℕ) → literalFault N p w ≡ Accepted → w < 2 * N
+literal-below : (N p w : ℕ) → codeFault N p w ≡ Accepted → w < 2 * N
 literal-below N p w e = ltb-true w (2 * N) (asking-accepted (ltb w (2 * N)) _ Accepted e .0)
-
-and-true-both : (a b : Bool) → (a && b) ≡ true → (a ≡ true) × (b ≡ true)
-and-true-both true b e = (refl, e)
-and-true-both false b e = absurd (true≢false (sym e))
 
 length-between : (least p w : ℕ) → lengthFault least p w ≡ Accepted → (least ≤ w) × (w ≤ 64)
 length-between least p w e =
-    let both = and-true-both (leb least w) (leb w 64) (asking-accepted (leb least w && leb w 64) (wrong-length p) Accepted e .0) in
+    let both = and-both (leb least w) (leb w 64) (asking-accepted (leb least w && leb w 64) (wrong-length p) Accepted e .0) in
     (leb-true least w (both .0), leb-true w 64 (both .1))
 
 head-unseen : (N : ℕ) (seen : ℕ → Bool) (p w : ℕ) → fault N seen Head p w ≡ Accepted → seen w ≡ false
 head-unseen N seen p w e =
     not-true (seen w)
     (asking-accepted (not (seen w)) (second-rule p) Accepted
-    (orElse-accepted (literalFault N p w) (asking (not (seen w)) (second-rule p) Accepted) e .1) .0)
+    (orElse-accepted (codeFault N p w) (asking (not (seen w)) (second-rule p) Accepted) e .1) .0)
 
 group-cons : (N l : ℕ) (β : List ℕ) → l < 2 * N → ((x : ℕ) → x ∈ β → x < 2 * N) → (x : ℕ) → x ∈ l ∷ β → x < 2 * N
 group-cons N l β h hs x m = ⊎-elim (λ (e : x ≡ l). subst (λ (y : ℕ). y < 2 * N) (sym e) h) (hs x) (List·Memᴰ·cases-cons m)
@@ -58,7 +57,7 @@ literals : (N : ℕ) (seen : ℕ → Bool) (k g p : ℕ) (t : List ℕ) → walk
 unfolding walk
 literals N seen zero g p t e =
     record { β = []; rest = t; place = p; split = refl; size = refl; below = λ l m. absurd (List·Memᴰ·not-nil m); goes-on = e }
-literals N seen (suc k) g p [] e = absurd (refused-is-not-accepted _ e)
+literals N seen (suc k) g p [] e = absurd (refused≢accepted _ e)
 literals N seen (suc k) g p (w ∷ t) e =
     let both = orElse-accepted _ _ e in
     let ih = literals N seen k g (suc p) t (both .1) in
@@ -85,7 +84,7 @@ groups : (N : ℕ) (seen : ℕ → Bool) (g p : ℕ) (t : List ℕ) → walk N s
 unfolding walk groupsWords
 groups N seen zero p t e =
     record { βs = []; rest = t; place = p; split = refl; size = refl; each = λ β m. absurd (List·Memᴰ·not-nil m); goes-on = e }
-groups N seen (suc g) p [] e = absurd (refused-is-not-accepted _ e)
+groups N seen (suc g) p [] e = absurd (refused≢accepted _ e)
 groups N seen (suc g) p (k ∷ t) e =
     let both = orElse-accepted _ _ e in
     let sizes = length-between 1 p k (both .0) in
@@ -120,7 +119,8 @@ unfolding walk wordsOf
 records N seen zero p [] h e = record { R = []; split = refl; good = tt }
 records N seen (suc n) p [] h e = record { R = []; split = refl; good = tt }
 records N seen zero p (w ∷ t) h e = absurd (not-suc-le-zero h)
-records N seen (suc n) p (w ∷ []) h e = absurd (refused-is-not-accepted (cut-short (suc p)) (orElse-accepted (fault N seen Head p w) (walk N (seen with w) Count (suc p) []) e .1))
+records N seen (suc n) p (w ∷ []) h e =
+    absurd (refused≢accepted (cut-short (suc p)) (orElse-accepted (fault N seen Head p w) (walk N (seen with w) Count (suc p) []) e .1))
 records N seen (suc n) p (w ∷ m ∷ t) h e =
     let first = orElse-accepted (fault N seen Head p w) (walk N (seen with w) Count (suc p) (m ∷ t)) e in
     let second = orElse-accepted (fault N (seen with w) Count (suc p) m) (walk N (seen with w) (groupsDue m) (suc (suc p)) t) (first .1) in

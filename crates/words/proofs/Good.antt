@@ -6,10 +6,9 @@ use mathlib.Core.Bool.{Bool, true, false, cond, true≢false}
 use Prim.Native.Nat.{ℕ, _*_, _<_}
 use lib.Dec.{eqb}
 use borrow.Author.Tests.{ne-eqb, eqb-false}
-use Rattle.paper.specs.Rules.{Rule, _∈_, HeadsBelow}
-use Rattle.bits.specs.Sets.{_with_}
-use Rattle.words.specs.Check.{walk}
-use Rattle.words.specs.Limits.{DistinctHeads, BodyWithin}
+use Rattle.paper.specs.Rules.{Rule, HeadsBelow}
+use Rattle.sets.specs.Sets.{_∈_, _with_}
+use Rattle.words.specs.Within.{DistinctHeads, BodyWithin}
 
 -- the rules that a walk from a head reads, with the heads seen before them
 abbrev pub Good : ℕ → (ℕ → Bool) → List Rule → Type 0
@@ -49,7 +48,8 @@ good-distinct N seen (ρ ∷ R) good = (
 pub good-bodies : (N : ℕ) (seen : ℕ → Bool) (R : List Rule) → Good N seen R → (ρ : Rule) → ρ ∈ R → BodyWithin N (ρ .groups)
 good-bodies N seen [] good σ m = absurd (List·Memᴰ·not-nil m)
 good-bodies N seen (ρ ∷ R) good σ m =
-    ⊎-elim (λ (e : σ ≡ ρ). subst (λ (x : Rule). BodyWithin N (x .groups)) (sym e) (good .2)) (good-bodies N (seen with ρ .head) R (good .3) σ) (List·Memᴰ·cases-cons m)
+    ⊎-elim (λ (e : σ ≡ ρ). subst (λ (x : Rule). BodyWithin N (x .groups)) (sym e) (good .2))
+    (good-bodies N (seen with ρ .head) R (good .3) σ) (List·Memᴰ·cases-cons m)
 
 pub good-of : (N : ℕ) (seen : ℕ → Bool) (R : List Rule) → HeadsBelow N R → DistinctHeads R
     → ((ρ : Rule) → ρ ∈ R → BodyWithin N (ρ .groups)) → ((ρ : Rule) → ρ ∈ R → seen (ρ .head) ≡ false) → Good N seen R

@@ -5,21 +5,20 @@ use mathlib.Core.List.{List, [], _∷_, List·Memᴰ·not-nil, List·Memᴰ·cas
 use mathlib.Core.Bool.{Bool}
 use Prim.Native.Nat.{ℕ, _*_, _≤_, _<_}
 use native.Mathlib.Nat.{le-refl}
-use native.Mathlib.Omega.{arith}
 use lib.Dec.{leb}
 use lib.ListN.{length}
 use borrow.Author.Tests.{leb-true, le-leb}
-use Rattle.paper.specs.Rules.{Rule, _∈_, OneRulePerHead, HeadsBelow}
-use Rattle.refusal.specs.declared.Refusal.{Refusal}
+use Rattle.paper.specs.Rules.{Rule, OneRulePerHead, HeadsBelow}
+use Rattle.sets.specs.Sets.{_∈_}
 use Rattle.refusal.specs.Numbers.{too-many-atoms, table-too-long}
-use Rattle.bits.specs.Sets.{_with_}
-use Rattle.words.specs.declared.Checked.{Checked}
-use Rattle.words.specs.declared.Checked.the-variants.{Accepted, Refused}
+use Rattle.refusal.specs.declared.Checked.{Checked}
+use Rattle.refusal.specs.declared.Checked.the-variants.{Accepted}
 use Rattle.words.specs.declared.Due.the-variants.{Head}
 use Rattle.words.specs.Layout.{wordsOf, rulesOf}
-use Rattle.words.specs.Check.{asking, noHeads, walk, tableCheck, AcceptedTable}
-use Rattle.words.specs.Limits.{DistinctHeads, Within}
-use Rattle.words.proofs.Steps.{asking-accepted}
+use Rattle.refusal.specs.Checks.{asking}
+use Rattle.words.specs.Check.{noHeads, walk, tableCheck, AcceptedTable}
+use Rattle.words.specs.Within.{DistinctHeads, Within}
+use Rattle.refusal.proofs.Laws.{asking-accepted}
 use Rattle.words.proofs.Reading.{rulesOf-wordsOf}
 use Rattle.words.proofs.Good.{good-heads, good-distinct, good-bodies, good-of}
 use Rattle.words.proofs.FromWords.{Records, records}
@@ -32,7 +31,8 @@ distinct-one-rule [] distinct ρ σ m m′ e = absurd (List·Memᴰ·not-nil m)
 distinct-one-rule (τ ∷ R) distinct ρ σ m m′ e =
     ⊎-elim
     (λ (p : ρ ≡ τ). ⊎-elim (λ (q : σ ≡ τ). p ∙ sym q) (λ q. absurd (distinct .0 σ q (sym e ∙ ap (λ (x : Rule). x .head) p))) (List·Memᴰ·cases-cons m′))
-    (λ p. ⊎-elim (λ (q : σ ≡ τ). absurd (distinct .0 ρ p (e ∙ ap (λ (x : Rule). x .head) q))) (λ q. distinct-one-rule R (distinct .1) ρ σ p q e) (List·Memᴰ·cases-cons m′))
+    (λ p. ⊎-elim (λ (q : σ ≡ τ). absurd (distinct .0 ρ p (e ∙ ap (λ (x : Rule). x .head) q)))
+    (λ q. distinct-one-rule R (distinct .1) ρ σ p q e) (List·Memᴰ·cases-cons m′))
     (List·Memᴰ·cases-cons m)
 
 pub accepted-atoms : (N : ℕ) (t : List ℕ) → AcceptedTable N t → N ≤ 512
@@ -90,10 +90,6 @@ accepted-literals N t a ρ β l m m′ m″ = accepted-within N t a .each-body �
 pub empty-accepted : (N : ℕ) → N ≤ 512 → AcceptedTable N []
 unfolding tableCheck walk
 empty-accepted N h = ap (λ (b : Bool). asking b too-many-atoms Accepted) (le-leb N 512 h)
-
--- a refusal is no acceptance
-pub refused≢accepted : (f : Refusal) → Refused f ≡ Accepted → ⊥
-refused≢accepted f e = let z : _≡_ {A = ℕ} 0 1 = cc in omega arith
 
 -- two answers that the promise of the check allows are equal
 pub check-determined : (N : ℕ) (t : List ℕ) (r r′ : Checked) → r ≡ tableCheck N t → r′ ≡ tableCheck N t → r ≡ r′

@@ -7,7 +7,8 @@ use native.Mathlib.Omega.{arith}
 use lib.ListN.{length, drop, length-drop, length-append}
 use lib.Seq.{take-append-seam, drop-append-seam}
 use Rattle.paper.specs.Rules.{Rule}
-use Rattle.words.specs.Layout.{groupsWords, wordsOf, WholeGroups, takeGroups, dropGroups, rulesWithin, rulesOf}
+use Rattle.words.specs.Layout.{groupsWords, wordsOf, takeGroups, dropGroups, rulesWithin, rulesOf}
+use Rattle.words.specs.RecordAt.{WholeGroups}
 
 pub takeGroups-groupsWords : (βs : List (List ℕ)) (rest : List ℕ) → takeGroups (length βs) (groupsWords βs ++ rest) ≡ βs
 unfolding takeGroups groupsWords
@@ -80,7 +81,3 @@ rulesOf-wordsOf (ρ ∷ R) =
     ∙ ap₂ (λ (βs : List (List ℕ)) (S : List Rule). record { head = ρ .head; groups = βs } ∷ S)
     (takeGroups-groupsWords (ρ .groups) (wordsOf R))
     (ap rulesOf (dropGroups-groupsWords (ρ .groups) (wordsOf R)) ∙ rulesOf-wordsOf R)
-
--- tables with the same words have the same rules
-pub same-words-same-rules : (t u : List ℕ) → t ≡ u → rulesOf t ≡ rulesOf u
-same-words-same-rules t u e = ap rulesOf e

@@ -2,7 +2,7 @@
 use mathlib.Core.Path.{_≡_, refl, sym, ap, _∙_, fun-ext}
 use mathlib.Core.Logic.{_⊎_, inl, inr}
 use mathlib.Core.List.{List, _∷_}
-use mathlib.Core.Bool.{Bool, true, false, _&&_, and-false}
+use mathlib.Core.Bool.{Bool, _&&_, and-false}
 use Prim.Native.Nat.{ℕ, zero, suc, _+_, _-_, _*_, _<_, _≤_}
 use native.Mathlib.Numerals.{add-one}
 use native.Mathlib.Omega.{arith}
@@ -10,16 +10,18 @@ use lib.Dec.{ltb, leb}
 use lib.ListN.{length, getD, drop, replicate, drop-of-length-le}
 use lib.Seq.{drop-cons}
 use borrow.Author.Tests.{ltb-true, lt-leb}
+use Rattle.refusal.proofs.Laws.{asking-accepted, orElse-accepted}
 use Rattle.refusal.specs.Numbers.{wrong-length}
 use Rattle.refusal.specs.declared.Refusal.{Refusal}
 use Rattle.bits.specs.Sets.{member}
 use Rattle.bits.proofs.Laws.{member-putIn, length-putIn, member-of-zeros}
-use Rattle.words.specs.declared.Checked.{Checked}
-use Rattle.words.specs.declared.Checked.the-variants.{Accepted, Refused}
+use Rattle.refusal.specs.declared.Checked.{Checked}
+use Rattle.refusal.specs.declared.Checked.the-variants.{Accepted, Refused}
 use Rattle.words.specs.declared.Due.{Due}
 use Rattle.words.specs.declared.Due.the-variants.{Head, Count, Size, Literal}
 use Rattle.words.specs.Flags.{noted}
-use Rattle.words.specs.Check.{asking, orElse, lengthFault, fault, groupsDue, literalsDue, next, seenAfter, noHeads, walk, ended}
+use Rattle.refusal.specs.Checks.{asking, orElse}
+use Rattle.words.specs.Check.{lengthFault, fault, groupsDue, literalsDue, next, seenAfter, noHeads, walk, ended}
 
 pub groupsDue-some : (g : ℕ) → (g ≡ 0 → ⊥) → Size (g - 1) ≡ groupsDue g
 groupsDue-some zero h = absurd (h refl)
@@ -35,17 +37,6 @@ wrong-length-found least p w (inl h) = sym (ap (λ (b : Bool). asking (b && leb 
 wrong-length-found least p w (inr h) =
     sym (ap (λ (b : Bool). asking (leb least w && b) (wrong-length p) Accepted) (lt-leb w 64 h)
     ∙ ap (λ (b : Bool). asking b (wrong-length p) Accepted) (and-false (leb least w)))
-
-pub refused-is-not-accepted : (r : Refusal) → Refused r ≡ Accepted → ⊥
-refused-is-not-accepted r e = let z : _≡_ {A = ℕ} 0 1 = cc in omega arith
-
-pub asking-accepted : (b : Bool) (r : Refusal) (rest : Checked) → asking b r rest ≡ Accepted → (b ≡ true) × (rest ≡ Accepted)
-asking-accepted true r rest e = (refl, e)
-asking-accepted false r rest e = absurd (refused-is-not-accepted r e)
-
-pub orElse-accepted : (a b : Checked) → orElse a b ≡ Accepted → (a ≡ Accepted) × (b ≡ Accepted)
-orElse-accepted Accepted b e = (refl, e)
-orElse-accepted (Refused r) b e = absurd (refused-is-not-accepted r e)
 
 -- an accepted head is a literal of the N atoms
 pub head-below : (N : ℕ) (seen : ℕ → Bool) (p w : ℕ) → fault N seen Head p w ≡ Accepted → w < 2 * N

@@ -1,31 +1,22 @@
--- Document 01, the refusals of a table check: 1, 2, then words left to right, and the first faulty word decides.
+-- Believed: the table check: 1, 2, then words left to right, and the first faulty word decides.
 use mathlib.Core.List.{List, [], _∷_}
 use mathlib.Core.Path.{_≡_}
-use mathlib.Core.Bool.{Bool, true, false, not, _&&_}
+use mathlib.Core.Bool.{Bool, false, not, _&&_}
 use Prim.Native.Nat.{ℕ, zero, suc, _*_}
 use lib.Dec.{leb, ltb}
 use lib.ListN.{length}
-use Rattle.refusal.specs.declared.Refusal.{Refusal}
+use Rattle.refusal.specs.Checks.{orElse, asking}
+use Rattle.limits.specs.Limits.{mostAtoms, mostWords, mostInBody}
 use Rattle.refusal.specs.Numbers.{too-many-atoms, table-too-long, cut-short, not-a-literal, wrong-length, second-rule}
-use Rattle.bits.specs.Sets.{_with_}
-use Rattle.words.specs.declared.Checked.{Checked}
-use Rattle.words.specs.declared.Checked.the-variants.{Accepted, Refused}
+use Rattle.sets.specs.Sets.{_with_}
+use Rattle.refusal.specs.declared.Checked.{Checked}
+use Rattle.refusal.specs.declared.Checked.the-variants.{Accepted, Refused}
 use Rattle.words.specs.declared.Due.{Due}
 use Rattle.words.specs.declared.Due.the-variants.{Head, Count, Size, Literal}
 
--- go on where the test passes, refuse where it fails
-abbrev pub asking : Bool → Refusal → Checked → Checked
-asking true r rest = rest
-asking false r rest = Refused r
-
--- a fault decides; without one the rest does
-abbrev pub orElse : Checked → Checked → Checked
-orElse Accepted rest = rest
-orElse (Refused r) rest = Refused r
-
 -- a literal code below 2N
-abbrev pub literalFault : ℕ → ℕ → ℕ → Checked
-literalFault N p w = asking (ltb w (2 * N)) (not-a-literal p) Accepted
+abbrev pub codeFault : ℕ → ℕ → ℕ → Checked
+codeFault N p w = asking (ltb w (2 * N)) (not-a-literal p) Accepted
 
 -- a head that no record before has
 abbrev pub repeatFault : (ℕ → Bool) → ℕ → ℕ → Checked
@@ -33,14 +24,14 @@ repeatFault seen p w = asking (not (seen w)) (second-rule p) Accepted
 
 -- a number of groups or a length: at most 64, and not below the least
 abbrev pub lengthFault : ℕ → ℕ → ℕ → Checked
-lengthFault least p w = asking (leb least w && leb w 64) (wrong-length p) Accepted
+lengthFault least p w = asking (leb least w && leb w mostInBody) (wrong-length p) Accepted
 
 -- the fault of a word at place p, by what is due there; `seen` are the heads before it
 abbrev pub fault : ℕ → (ℕ → Bool) → Due → ℕ → ℕ → Checked
-fault N seen Head p w = orElse (literalFault N p w) (repeatFault seen p w)
+fault N seen Head p w = orElse (codeFault N p w) (repeatFault seen p w)
 fault N seen Count p w = lengthFault 0 p w
 fault N seen (Size g) p w = lengthFault 1 p w
-fault N seen (Literal k g) p w = literalFault N p w
+fault N seen (Literal k g) p w = codeFault N p w
 
 -- g groups are to come: the length of the first is due, or the next head
 abbrev pub groupsDue : ℕ → Due
@@ -82,10 +73,18 @@ walk N seen due p (w ∷ t) = orElse (fault N seen due p w) (walk N (seenAfter d
 abbrev pub noHeads : ℕ → Bool
 noHeads w = false
 
+-- 1: N above 512
+abbrev pub tooManyAtoms : ℕ → Checked
+tooManyAtoms N = asking (leb N mostAtoms) too-many-atoms Accepted
+
+-- 2: table above 8,192 words
+abbrev pub tableTooLong : List ℕ → Checked
+tableTooLong t = asking (leb (length t) mostWords) table-too-long Accepted
+
 -- the table check: N above 512, table above 8,192 words, then the words
 unfoldable pub tableCheck : ℕ → List ℕ → Checked
 tableCheck N t =
-    asking (leb N 512) too-many-atoms (asking (leb (length t) 8192) table-too-long (walk N noHeads Head 0 t))
+    asking (leb N mostAtoms) too-many-atoms (asking (leb (length t) mostWords) table-too-long (walk N noHeads Head 0 t))
 
 -- the check accepts the table
 abbrev pub AcceptedTable : ℕ → List ℕ → Type 0

@@ -1,4 +1,4 @@
--- The heads seen, as the code keeps them: a row of 64-bit words.
+-- Stage: the heads seen, as the code keeps them: a row of 64-bit words.
 use mathlib.Core.List.{List}
 use Prim.Native.Nat.{ℕ}
 use Rattle.bits.specs.Sets.{putIn}

@@ -1,13 +1,7 @@
--- Document 01, "Word table": how records lie in the words. Nothing else says it: other crates name the places below, and code the constants
--- GROUPS, BODY, LITERALS and ONE_LITERAL of src/, which are these.
--- W2, a line number after the head: recordWords, groupsAt, bodyAt and rulesWithin here, GROUPS and BODY in src/; a Due after Head in Check.antt
--- and src/; record-at in proofs/Places.antt; wordsOf (rulesOf t) ≡ t, unless rules carry the number; where sheetwords puts a head, the number is put too.
--- W10, IN words: literalFault in Check.antt where they are allowed; nothing here, since an IN word is one word of a group.
--- W13, brackets that count as one in k: groupWords, WholeGroups, takeGroups and dropGroups; a Due inside a bracket; group-at in proofs/Places.antt;
--- where least walks a group and sheetwords puts a literal.
+-- Believed: how records lie in the words, and the rules of a table; code names the same places by GROUPS, BODY, LITERALS and ONE_LITERAL.
 use mathlib.Core.List.{List, [], _∷_, _++_}
-use Prim.Native.Nat.{ℕ, zero, suc, _+_, _≤_}
-use lib.ListN.{length, getD, take, drop}
+use Prim.Native.Nat.{ℕ, zero, suc, _+_}
+use lib.ListN.{length, take, drop}
 use Rattle.paper.specs.Rules.{Rule}
 
 -- a group: its length k and k literal codes
@@ -42,12 +36,6 @@ literalsAt i = i + 1
 abbrev pub afterOne : ℕ → ℕ
 afterOne i = i + 2
 
--- m whole groups stand at the front of the words
-unfoldable pub WholeGroups : ℕ → List ℕ → Type 0
-WholeGroups zero t = Unit {0}
-WholeGroups (suc m) [] = ⊥
-WholeGroups (suc m) (k ∷ t) = (k ≤ length t) × WholeGroups m (drop k t)
-
 -- m groups at the front of the words
 unfoldable pub takeGroups : ℕ → List ℕ → List (List ℕ)
 takeGroups zero t = []
@@ -70,18 +58,3 @@ rulesWithin (suc n) (h ∷ m ∷ t) = record { head = h; groups = takeGroups m t
 -- the rules of a table; a table has no more records than words
 unfoldable pub rulesOf : List ℕ → List Rule
 rulesOf t = rulesWithin (length t) t
-
--- of the record at place i: its number of groups, and the words from its first group on
-abbrev pub groupsIn : List ℕ → ℕ → ℕ
-groupsIn t i = getD t (groupsAt i) 0
-
-abbrev pub bodyFrom : List ℕ → ℕ → List ℕ
-bodyFrom t i = drop (bodyAt i) t
-
--- the rule of the record at place i
-abbrev pub ruleAt : List ℕ → ℕ → Rule
-ruleAt t i = record { head = getD t i 0; groups = takeGroups (groupsIn t i) (bodyFrom t i) }
-
--- the words after the record at place i
-abbrev pub afterRecord : List ℕ → ℕ → List ℕ
-afterRecord t i = dropGroups (groupsIn t i) (bodyFrom t i)

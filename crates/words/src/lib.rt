@@ -1,17 +1,12 @@
-use refusal::Refusal;
+use refusal::Checked;
 ghost use mathlib.Core.Path.{_≡_};
 ghost use Prim.Native.Nat.{_<_, _≤_};
-ghost use lib.ListN.{length, getD};
+ghost use lib.ListN.{getD};
+ghost use Rattle.limits.specs.Limits.{mostAtoms};
 ghost use Rattle.bits.specs.Sets.{member};
 ghost use Rattle.refusal.specs.Numbers.{refusal};
 ghost use Rattle.words.specs.Flags.{noted};
-ghost use Rattle.words.specs.Check.{orElse, fault, literalFault, repeatFault, lengthFault, groupsDue, literalsDue, next, ended, noHeads, walk, tableCheck};
-
-// The answer of a check.
-pub enum Checked {
-    Accepted,
-    Refused(Refusal),
-}
+ghost use Rattle.words.specs.Check.{fault, codeFault, repeatFault, lengthFault, groupsDue, literalsDue, next, ended, noHeads, walk, tableTooLong, tableCheck};
 
 // What the next word is. A length or a literal says how many groups come after its own, a literal how many after it in its group.
 pub enum Due {
@@ -43,35 +38,15 @@ pub fn word(table: &[u16], i: usize) -> usize
     }
 }
 
-// The refusal of this number at this place.
-fn refused(number: u64, at: usize) -> Checked
-    ensures { λ r. ⌜ r ≡ Checked.Refused (refusal number at) ⌝ }
-{
-    Checked::Refused(Refusal {
-        number,
-        place: at as u64,
-    })
-}
-
-// The first of two faults.
-pub fn first_of(a: Checked, b: Checked) -> Checked
-    ensures { λ r. ⌜ r ≡ orElse a b ⌝ }
-{
-    match a {
-        Checked::Accepted => b,
-        Checked::Refused(r) => Checked::Refused(r),
-    }
-}
-
 // A literal code is below twice the number of atoms.
-fn literal_fault(n: usize, at: usize, w: usize) -> Checked
-    requires { ⌜ n ≤ 512 ⌝ }
-    ensures { λ r. ⌜ r ≡ literalFault n at w ⌝ }
+fn code_fault(n: usize, at: usize, w: usize) -> Checked
+    requires { ⌜ n ≤ mostAtoms ⌝ }
+    ensures { λ r. ⌜ r ≡ codeFault n at w ⌝ }
 {
     if w < 2 * n {
         Checked::Accepted
     } else {
-        refused(refusal::NOT_A_LITERAL, at)
+        refusal::refused(refusal::NOT_A_LITERAL, at)
     }
 }
 
@@ -80,7 +55,7 @@ fn repeat_fault(seen: &[u64], at: usize, w: usize) -> Checked
     ensures { λ r. ⌜ r ≡ repeatFault (member (now (seen .entry))) at w ⌝ }
 {
     if bits::has(seen, w) {
-        refused(refusal::SECOND_RULE, at)
+        refusal::refused(refusal::SECOND_RULE, at)
     } else {
         Checked::Accepted
     }
@@ -90,23 +65,23 @@ fn repeat_fault(seen: &[u64], at: usize, w: usize) -> Checked
 fn length_fault(least: usize, at: usize, w: usize) -> Checked
     ensures { λ r. ⌜ r ≡ lengthFault least at w ⌝ }
 {
-    if least <= w && w <= 64 {
+    if least <= w && w <= limits::MOST_IN_BODY {
         Checked::Accepted
     } else {
-        refused(refusal::WRONG_LENGTH, at)
+        refusal::refused(refusal::WRONG_LENGTH, at)
     }
 }
 
 // The fault of the word at `at`, or none.
 fn fault_of(n: usize, seen: &[u64], due: Due, at: usize, w: usize) -> Checked
-    requires { ⌜ n ≤ 512 ⌝ }
+    requires { ⌜ n ≤ mostAtoms ⌝ }
     ensures { λ r. ⌜ r ≡ fault n (member (now (seen .entry))) due at w ⌝ }
 {
     match due {
-        Due::Head => first_of(literal_fault(n, at, w), repeat_fault(seen, at, w)),
+        Due::Head => refusal::first_of(code_fault(n, at, w), repeat_fault(seen, at, w)),
         Due::Count => length_fault(0, at, w),
         Due::Size(_) => length_fault(1, at, w),
-        Due::Literal(_, _) => literal_fault(n, at, w),
+        Due::Literal(_, _) => code_fault(n, at, w),
     }
 }
 
@@ -158,15 +133,15 @@ fn ended_at(due: Due, words: usize) -> Checked
 {
     match due {
         Due::Head => Checked::Accepted,
-        Due::Count => refused(refusal::CUT_SHORT, words),
-        Due::Size(_) => refused(refusal::CUT_SHORT, words),
-        Due::Literal(_, _) => refused(refusal::CUT_SHORT, words),
+        Due::Count => refusal::refused(refusal::CUT_SHORT, words),
+        Due::Size(_) => refusal::refused(refusal::CUT_SHORT, words),
+        Due::Literal(_, _) => refusal::refused(refusal::CUT_SHORT, words),
     }
 }
 
 // The words from left to right: the first faulty one decides.
 fn walk_words(n: usize, table: &[u16]) -> Checked
-    requires { ⌜ n ≤ 512 ⌝ }
+    requires { ⌜ n ≤ mostAtoms ⌝ }
     ensures { λ r. ⌜ r ≡ walk n noHeads Due.Head 0 (now (table .entry)) ⌝ }
 {
     let mut seen = [0u64; 16];
@@ -184,15 +159,26 @@ fn walk_words(n: usize, table: &[u16]) -> Checked
     ended_at(due, i)
 }
 
+// 2 alone.
+pub fn table_too_long(table: &[u16]) -> Checked
+    ensures { λ r. ⌜ r ≡ tableTooLong (now (table .entry)) ⌝ }
+{
+    if limits::MOST_WORDS < table.len() {
+        refusal::refused(refusal::TABLE_TOO_LONG, 0)
+    } else {
+        Checked::Accepted
+    }
+}
+
 // Is this a table for `n` atoms?
 pub fn check(n: u64, table: &[u16]) -> Checked
     ensures { λ r. ⌜ r ≡ tableCheck n (now (table .entry)) ⌝ }
 {
-    if 512 < n {
-        return refused(refusal::TOO_MANY_ATOMS, 0);
+    if limits::MOST_N < n {
+        return refusal::refused(refusal::TOO_MANY_ATOMS, 0);
     }
-    if 8192 < table.len() {
-        return refused(refusal::TABLE_TOO_LONG, 0);
+    if limits::MOST_WORDS < table.len() {
+        return refusal::refused(refusal::TABLE_TOO_LONG, 0);
     }
     walk_words(n as usize, table)
 }

@@ -4,8 +4,8 @@ use native.Mathlib.Omega.{arith}
 use lib.Count.{ones, ones-le}
 use lib.ListN.{getD}
 use borrow.Author.Needs.{needs}
-use Rattle.paper.specs.Marking.{count}
-use Rattle.paper.proofs.Counting.{count≤}
+use Rattle.sets.specs.Sets.{count}
+use Rattle.sets.proofs.Counting.{count≤}
 use Rattle.bits.specs.Sets.{member}
 use Rattle.bits.proofs.Laws.{count-turn}
 use Rattle.bits.proofs.count.Statement.{statement}
@@ -28,10 +28,25 @@ word-requires : tie.Need-word-requires Inv-loop μ-loop
 word-requires c κs = search needs
 
 cast-n : tie.Need-cast-n Inv-loop μ-loop
-cast-n c = omega (arith, ones-le 64 (getD (c .before .before .before .before .args .set .now) (c .before .before .loop .w) 0) (c .before .before .before .shared-slice-known .given (c .before .before .loop .w) .fits), ap ones (c .word .ensures))
+cast-n c =
+    let entry = c .before .before .before .before in
+    omega (
+      arith,
+      ones-le 64 (getD (entry .args .set .now) (c .before .before .loop .w) 0)
+          (c .before .before .before .shared-slice-known .given (c .before .before .loop .w) .fits),
+      ap ones (c .word .ensures),
+    )
 
 add-n : tie.Need-add-n Inv-loop μ-loop
-add-n c = omega (arith, ones-le 64 (getD (c .before .before .before .before .args .set .now) (c .before .before .loop .w) 0) (c .before .before .before .shared-slice-known .given (c .before .before .loop .w) .fits), ap ones (c .word .ensures), count≤ (64 * c .before .before .loop .w) (member (c .before .before .before .before .args .set .now)))
+add-n c =
+    let entry = c .before .before .before .before in
+    let at-loop = c .before .before .loop in
+    omega (
+      arith,
+      ones-le 64 (getD (entry .args .set .now) (at-loop .w) 0) (c .before .before .before .shared-slice-known .given (at-loop .w) .fits),
+      ap ones (c .word .ensures),
+      count≤ (64 * at-loop .w) (member (entry .args .set .now)),
+    )
 
 add-w : tie.Need-add-w Inv-loop μ-loop
 add-w c = omega arith

@@ -34,8 +34,11 @@ add-t8 c = omega (arith, trailing-le 64 (c .before .word .result))
 
 returns : tie.Need-returns Inv-loop μ-loop
 returns c =
+    let entry = c .before .before .before .before .before in
+    let at-shared-slice-known = c .before .before .before .before .shared-slice-known in
     let l = c .before .before .before .loop in
-    lowest-turn (c .before .before .before .before .before .args .set .now) 1024 (l .w) (omega arith) (c .before .before .before .before .shared-slice-known .given (l .w) .fits) (c .before .word .ensures) (c .if1 .taken) (l .inv .1)
+    lowest-turn (entry .args .set .now) 1024
+    (l .w) (omega arith) (at-shared-slice-known .given (l .w) .fits) (c .before .word .ensures) (c .if1 .taken) (l .inv .1)
 
 add-w : tie.Need-add-w Inv-loop μ-loop
 add-w c = omega arith
@@ -45,8 +48,9 @@ loop-less c = omega arith
 
 loop-again : tie.Need-loop-again Inv-loop μ-loop
 loop-again c =
+    let entry = c .before .before .before .before .before in
     let l = c .before .before .before .loop in
-    (omega arith, none-in-zero (c .before .before .before .before .before .args .set .now) (l .w) (sym (c .before .word .ensures) ∙ c .if1 .left) (l .inv .1))
+    (omega arith, none-in-zero (entry .args .set .now) (l .w) (sym (c .before .word .ensures) ∙ c .if1 .left) (l .inv .1))
 
 returns-2 : tie.Need-returns-2 Inv-loop μ-loop
 returns-2 c = sym (lowestFrom-nothing 1024 0 (member (c .before .before .before .args .set .now)) (λ j a h. c .before .loop .inv .1 j (omega arith)))

@@ -1,15 +1,8 @@
 use borrow.Author.Needs.{needs}
 use mathlib.Core.Path.{sym, _∙_}
-use native.Mathlib.Omega.{arith}
 use Rattle.evaluation.specs.Evaluation.{EvaluationAllows}
-use Rattle.evaluation.proofs.Evaluated.{evaluation-accepted}
-use borrow.Author.Needs.{needs}
 use Rattle.evaluation.proofs.evaluate.Statement.{statement}
 use Rattle.evaluation.proofs.evaluate.Tie as tie
-use Rattle.evaluation.proofs.evaluate.Reads as reads
-use Rattle.evaluation.proofs.evaluate.Lts as lts
-use Rattle.evaluation.proofs.evaluation_fault.Reads as evaluation-fault-reads
-use Rattle.evaluation.proofs.write_settled.Reads as write-settled-reads
 
 evaluation-fault-requires : tie.Need-evaluation-fault-requires
 evaluation-fault-requires c κs = search needs

@@ -6,10 +6,6 @@ use Rattle.evaluation.specs.Rounds.{RoundOver}
 use Rattle.evaluation.proofs.Rounds.{turn, over-looked, round-begins, round-ends}
 use Rattle.evaluation.proofs.mark_all.Statement.{statement}
 use Rattle.evaluation.proofs.mark_all.Tie as tie
-use Rattle.evaluation.proofs.mark_all.Reads as reads
-use Rattle.evaluation.proofs.mark_all.Lts as lts
-use Rattle.evaluation.proofs.either.Reads as either-reads
-use Rattle.evaluation.proofs.mark_one.Reads as mark-one-reads
 
 abbrev Inv-loop : tie.InvT-loop
 Inv-loop marks₀ held clean n a₀ any₀ marks a any =
@@ -38,18 +34,23 @@ loop-again : tie.Need-loop-again Inv-loop μ-loop
 loop-again c =
     let entry = c .before .before .before .before .before .before .before .before .before .before in
     let at = c .before .before .before .before .before .before .loop in
-    let one = c .before .before .before .mark-one in
-    (omega arith, turn (entry .args .marks .now) (member (entry .args .held .now)) (member (entry .args .clean .now)) (entry .pre .1) (at .marks) _ (at .a) (at .any) (one .result) (c .either .result) (omega (arith, entry .pre .0)) (at .inv .1) (one .ensures .0) (one .ensures .1) (c .either .ensures))
+    let one = c .before .before .before .mark-one in (
+      omega arith,
+      turn (entry .args .marks .now) (member (entry .args .held .now)) (member (entry .args .clean .now)) (entry .pre .1) (at .marks) _ (at .a)
+          (at .any) (one .result) (c .either .result) (omega (arith, entry .pre .0)) (at .inv .1) (one .ensures .0) (one .ensures .1) (c .either .ensures),
+    )
 
 same-length : tie.Need-same-length Inv-loop μ-loop
 same-length c =
     let entry = c .before .before .before .before .before in
     let at = c .before .loop in
-    over-looked (entry .args .marks .now) (member (entry .args .held .now)) (member (entry .args .clean .now)) (entry .pre .1) (at .a) (at .any) _ (omega (arith, at .inv .0, entry .pre .0)) (at .inv .1) .length-same
+    over-looked (entry .args .marks .now) (member (entry .args .held .now)) (member (entry .args .clean .now)) (entry .pre .1) (at .a) (at .any) _
+    (omega (arith, at .inv .0, entry .pre .0)) (at .inv .1) .length-same
 
 returns : tie.Need-returns Inv-loop μ-loop
 returns c =
-    round-ends _ _ _ _ (c .before .loop .a) (c .before .before .before .before .before .args .n) _ (c .before .loop .inv .0) (c .loop-test .left) (c .before .loop .inv .1)
+    let entry = c .before .before .before .before .before in
+    round-ends _ _ _ _ (c .before .loop .a) (entry .args .n) _ (c .before .loop .inv .0) (c .loop-test .left) (c .before .loop .inv .1)
 
 pub mark-all-spec : {M : Type 1} → statement M
 mark-all-spec =

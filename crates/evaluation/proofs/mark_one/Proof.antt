@@ -1,12 +1,7 @@
 use borrow.Author.Needs.{needs}
 use mathlib.Core.Path.{sym, _∙_}
-use borrow.Author.Needs.{needs}
 use Rattle.evaluation.proofs.mark_one.Statement.{statement}
 use Rattle.evaluation.proofs.mark_one.Tie as tie
-use Rattle.evaluation.proofs.mark_one.Reads as reads
-use Rattle.evaluation.proofs.mark_one.Lts as lts
-use Rattle.bits.proofs.put.Reads as put-reads
-use Rattle.marking.proofs.is_markable.Reads as is-markable-reads
 
 is-markable-requires : tie.Need-is-markable-requires
 is-markable-requires c κs = search needs
@@ -19,7 +14,9 @@ same-length c = search needs
 
 returns : tie.Need-returns
 returns c =
-    (sym (c .before .before .before .before .if1 .taken) ∙ c .before .before .before .before .before .is-markable .ensures, c .before .before .put .ensures)
+    let at-is-markable = c .before .before .before .before .before .is-markable in
+    let at-if1 = c .before .before .before .before .if1 in
+    (sym (at-if1 .taken) ∙ at-is-markable .ensures, c .before .before .put .ensures)
 
 same-length-2 : tie.Need-same-length-2
 same-length-2 c = search needs

@@ -1,20 +1,11 @@
 use borrow.Author.Needs.{needs}
-use mathlib.Core.Path.{sym, _∙_, ap, subst, _≡_}
-use lib.ListN.{length}
+use mathlib.Core.Path.{sym, subst}
 use Rattle.words.specs.Layout.{rulesOf}
-use Rattle.least.specs.Passing.{Records}
-use Rattle.paper.specs.Rules.{HeadsBelow}
-use Prim.Native.Nat.{_≤_}
 use Rattle.evaluation.specs.Rounds.{Settling}
 use Rattle.evaluation.proofs.Rounds.{left, round-settles, round-falls}
 use Rattle.evaluation.proofs.Evaluated.{first-round}
 use Rattle.evaluation.proofs.settle.Statement.{statement}
 use Rattle.evaluation.proofs.settle.Tie as tie
-use Rattle.evaluation.proofs.settle.Reads as reads
-use Rattle.evaluation.proofs.settle.Lts as lts
-use Rattle.evaluation.proofs.mark_all.Reads as mark-all-reads
-use Rattle.evaluation.proofs.round.Reads as round-reads
-use Rattle.least.proofs.clean.Reads as clean-reads
 
 abbrev Inv-loop : tie.InvT-loop
 Inv-loop table n marks₀ held₀ again₀ marks held again =
@@ -42,11 +33,15 @@ slice-aggregate-mark-all-3 c = search needs
 
 mark-all-requires : tie.Need-mark-all-requires Inv-loop μ-loop
 mark-all-requires c κs =
-    (c .before .before .before .before .before .before .pre .0, search needs)
+    let entry = c .before .before .before .before .before .before in
+    (entry .pre .0, search needs)
 
 loop-holds : tie.Need-loop-holds Inv-loop μ-loop
 loop-holds c =
-    first-round (rulesOf (c .before .before .before .before .before .before .before .before .args .table .now)) (c .before .before .before .before .before .before .before .before .args .n) (c .before .before .before .before .before .before .before .before .pre .2) (c .before .before .before .before .before .before .before .before .pre .0) (c .before .before .before .before .before .clean .result) _ (c .before .mark-all .result) (search needs) (c .before .before .before .before .before .clean .ensures) (c .before .mark-all .ensures)
+    let entry = c .before .before .before .before .before .before .before .before in
+    let at-clean = c .before .before .before .before .before .clean in
+    first-round (rulesOf (entry .args .table .now)) (entry .args .n) (entry .pre .2) (entry .pre .0) (at-clean .result) _
+    (c .before .mark-all .result) (search needs) (at-clean .ensures) (c .before .mark-all .ensures)
 
 slice-aggregate-round : tie.Need-slice-aggregate-round Inv-loop μ-loop
 slice-aggregate-round c =
@@ -58,21 +53,28 @@ slice-aggregate-round-2 c =
 
 round-requires : tie.Need-round-requires Inv-loop μ-loop
 round-requires c κs =
-    (c .before .before .before .before .before .before .before .before .before .before .before .before .pre .0, c .before .before .before .before .before .before .before .before .before .before .before .before .pre .1, c .before .before .before .before .before .before .before .before .before .before .before .before .pre .2, c .before .before .before .loop .inv .begun)
+    let entry = c .before .before .before .before .before .before .before .before .before .before .before .before in
+    (entry .pre .0, entry .pre .1, entry .pre .2, c .before .before .before .loop .inv .begun)
 
 loop-less : tie.Need-loop-less Inv-loop μ-loop
 loop-less c =
     let entry = c .before .before .before .before .before .before .before .before .before .before .before .before .before .before .before in
-    round-falls (rulesOf (entry .args .table .now)) (entry .args .n) (entry .pre .2) (entry .pre .0) _ _ _ _ _ (c .before .before .before .before .before .before .loop .inv .begun) (c .before .before .round .ensures) _ (c .before .before .before .before .before .loop-test .taken)
+    let at-loop = c .before .before .before .before .before .before .loop in
+    let at-loop-test = c .before .before .before .before .before .loop-test in
+    round-falls (rulesOf (entry .args .table .now)) (entry .args .n) (entry .pre .2) (entry .pre .0) _ _ _ _ _
+    (at-loop .inv .begun) (c .before .before .round .ensures) _ (at-loop-test .taken)
 
 loop-again : tie.Need-loop-again Inv-loop μ-loop
 loop-again c =
     let entry = c .before .before .before .before .before .before .before .before .before .before .before .before .before .before .before in
-    round-settles (rulesOf (entry .args .table .now)) (entry .args .n) (entry .pre .2) (entry .pre .0) _ _ _ _ _ (c .before .before .before .before .before .before .loop .inv .begun) (c .before .before .round .ensures)
+    let at-loop = c .before .before .before .before .before .before .loop in
+    round-settles (rulesOf (entry .args .table .now)) (entry .args .n) (entry .pre .2) (entry .pre .0) _ _ _ _ _
+    (at-loop .inv .begun) (c .before .before .round .ensures)
 
 returns : tie.Need-returns Inv-loop μ-loop
 returns c =
-    subst (Settling (rulesOf (c .before .before .before .before .before .before .before .before .before .before .args .table .now)) (c .before .loop .marks) (c .before .loop .held)) (c .loop-test .left) (c .before .loop .inv)
+    let entry = c .before .before .before .before .before .before .before .before .before .before in
+    subst (Settling (rulesOf (entry .args .table .now)) (c .before .loop .marks) (c .before .loop .held)) (c .loop-test .left) (c .before .loop .inv)
 
 pub settle-spec : {M : Type 1} → statement M
 settle-spec =

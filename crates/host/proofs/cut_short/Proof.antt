@@ -1,12 +1,7 @@
 use borrow.Author.Needs.{needs}
 use Rattle.host.proofs.Evaluating.{cut-refused, cut-accepted}
-use borrow.Author.Needs.{needs}
 use Rattle.host.proofs.cut_short.Statement.{statement}
 use Rattle.host.proofs.cut_short.Tie as tie
-use Rattle.host.proofs.cut_short.Reads as reads
-use Rattle.host.proofs.cut_short.Lts as lts
-use Rattle.evaluation.proofs.evaluation_fault.Reads as evaluation-fault-reads
-use Rattle.host.proofs.refused.Reads as refused-reads
 
 evaluation-fault-requires : tie.Need-evaluation-fault-requires
 evaluation-fault-requires c κs = search needs
@@ -21,14 +16,15 @@ returns c =
 enum-told : tie.Need-enum-told
 enum-told c = search needs
 
-refused-requires : tie.Need-refused-requires
-refused-requires c κs = search needs
+at-requires : tie.Need-at-requires
+at-requires c κs = search needs
 
 returns-2 : tie.Need-returns-2
 returns-2 c =
-    cut-accepted _ _ _ _ _ (c .before .before .before .before .before .pre) (c .before .before .before .evaluation-fault .ensures) (c .before .enum-told .given .1) (c .refused .ensures)
+    let entry = c .before .before .before .before .before in
+    cut-accepted _ _ _ _ _ (entry .pre) (c .before .before .before .evaluation-fault .ensures) (c .before .enum-told .given .1) (c .at .ensures)
 
 pub cut-short-spec : {M : Type 1} → statement M
 cut-short-spec =
     tie.close
-    (tie.spec evaluation-fault-requires enum-known-r returns enum-told refused-requires returns-2)
+    (tie.spec evaluation-fault-requires enum-known-r returns enum-told at-requires returns-2)

@@ -2,19 +2,11 @@ use borrow.Author.Needs.{needs}
 use mathlib.Core.Path.{sym, _∙_, ap, refl}
 use native.Mathlib.Omega.{arith}
 use Prim.Native.Nat.{_/_}
-use lib.ListN.{length, take}
+use lib.ListN.{length}
 use Rattle.host.proofs.Bytes.{length-wordsIn}
 use Rattle.host.proofs.Evaluating.{host-too-long, host-cut, host-whole, front-words}
-use borrow.Author.Needs.{needs}
 use Rattle.host.proofs.evaluate_bytes.Statement.{statement}
 use Rattle.host.proofs.evaluate_bytes.Tie as tie
-use Rattle.host.proofs.evaluate_bytes.Reads as reads
-use Rattle.host.proofs.evaluate_bytes.Lts as lts
-use Rattle.host.proofs.cut_short.Reads as cut-short-reads
-use Rattle.host.proofs.evaluate_words.Reads as evaluate-words-reads
-use Rattle.host.proofs.fill_words.Reads as fill-words-reads
-use Rattle.host.proofs.pack.Reads as pack-reads
-use Rattle.host.proofs.too_long.Reads as too-long-reads
 
 too-long-requires : tie.Need-too-long-requires
 too-long-requires c κs = search needs
@@ -34,13 +26,18 @@ array-share-prefix-words c = search needs
 
 slice-aggregate-cut-short : tie.Need-slice-aggregate-cut-short
 slice-aggregate-cut-short c =
-    let w = front-words (c .before .before .before .before .before .before .before .before .args .table .now) _ _ (length (c .before .before .before .before .before .before .before .before .args .table .now) / 2) refl (c .before .before .before .fill-words .ensures) in
-    sym (ap length w ∙ length-wordsIn (c .before .before .before .before .before .before .before .before .args .table .now))
+    let entry = c .before .before .before .before .before .before .before .before in
+    let table = entry .args .table .now in
+    let w = front-words table _ _ (length table / 2) refl (c .before .before .before .fill-words .ensures) in
+    sym (ap length w ∙ length-wordsIn table)
 
 cut-short-requires : tie.Need-cut-short-requires
 cut-short-requires c κs =
-    let w = front-words (c .before .before .before .before .before .before .before .before .args .table .now) _ _ (length (c .before .before .before .before .before .before .before .before .args .table .now) / 2) refl (c .before .before .before .fill-words .ensures) in
-    omega (arith, ap length w ∙ length-wordsIn (c .before .before .before .before .before .before .before .before .args .table .now), c .before .before .before .before .before .if1 .left)
+    let entry = c .before .before .before .before .before .before .before .before in
+    let at-if1 = c .before .before .before .before .before .if1 in
+    let table = entry .args .table .now in
+    let w = front-words table _ _ (length table / 2) refl (c .before .before .before .fill-words .ensures) in
+    omega (arith, ap length w ∙ length-wordsIn table, at-if1 .left)
 
 pack-requires : tie.Need-pack-requires
 pack-requires c κs =
@@ -48,29 +45,43 @@ pack-requires c κs =
 
 returns-2 : tie.Need-returns-2
 returns-2 c =
-    let w = front-words (c .before .before .before .before .before .before .before .before .before .before .args .table .now) _ _ (length (c .before .before .before .before .before .before .before .before .before .before .args .table .now) / 2) refl (c .before .before .before .before .before .fill-words .ensures) in
-    host-cut (c .before .before .before .before .before .before .before .before .before .before .args .n) (c .before .before .before .before .before .before .before .before .before .before .args .table .now) _ _ (c .before .cut-short .result) _ (c .before .before .before .if2 .taken) w (c .before .cut-short .ensures .0) (c .pack .ensures)
+    let entry = c .before .before .before .before .before .before .before .before .before .before in
+    let at-fill-words = c .before .before .before .before .before .fill-words in
+    let table = entry .args .table .now in
+    let w = front-words table _ _ (length table / 2) refl (at-fill-words .ensures) in
+    host-cut (entry .args .n) table _ _ (c .before .cut-short .result) _
+    (c .before .before .before .if2 .taken) w (c .before .cut-short .ensures .0) (c .pack .ensures)
 
 array-share-prefix-words-2 : tie.Need-array-share-prefix-words-2
 array-share-prefix-words-2 c = search needs
 
 slice-aggregate-evaluate-words : tie.Need-slice-aggregate-evaluate-words
 slice-aggregate-evaluate-words c =
-    let w = front-words (c .before .before .before .before .before .before .before .before .args .table .now) _ _ (length (c .before .before .before .before .before .before .before .before .args .table .now) / 2) refl (c .before .before .before .fill-words .ensures) in
-    sym (ap length w ∙ length-wordsIn (c .before .before .before .before .before .before .before .before .args .table .now))
+    let entry = c .before .before .before .before .before .before .before .before in
+    let table = entry .args .table .now in
+    let w = front-words table _ _ (length table / 2) refl (c .before .before .before .fill-words .ensures) in
+    sym (ap length w ∙ length-wordsIn table)
 
 evaluate-words-requires : tie.Need-evaluate-words-requires
 evaluate-words-requires c κs =
-    let w = front-words (c .before .before .before .before .before .before .before .before .before .args .table .now) _ _ (length (c .before .before .before .before .before .before .before .before .before .args .table .now) / 2) refl (c .before .before .before .before .fill-words .ensures) in
-    omega (arith, ap length w ∙ length-wordsIn (c .before .before .before .before .before .before .before .before .before .args .table .now), c .before .before .before .before .before .before .if1 .left)
+    let entry = c .before .before .before .before .before .before .before .before .before in
+    let at-if1 = c .before .before .before .before .before .before .if1 in
+    let at-fill-words = c .before .before .before .before .fill-words in
+    let table = entry .args .table .now in
+    let w = front-words table _ _ (length table / 2) refl (at-fill-words .ensures) in
+    omega (arith, ap length w ∙ length-wordsIn table, at-if1 .left)
 
 same-length : tie.Need-same-length
 same-length c = search needs
 
 returns-3 : tie.Need-returns-3
 returns-3 c =
-    let w = front-words (c .before .before .before .before .before .before .before .before .before .before .before .before .args .table .now) _ _ (length (c .before .before .before .before .before .before .before .before .before .before .before .before .args .table .now) / 2) refl (c .before .before .before .before .before .before .before .fill-words .ensures) in
-    host-whole (c .before .before .before .before .before .before .before .before .before .before .before .before .args .n) (c .before .before .before .before .before .before .before .before .before .before .before .before .args .table .now) _ _ _ _ (c .before .before .before .before .before .if2 .left) w (c .before .before .evaluate-words .ensures)
+    let entry = c .before .before .before .before .before .before .before .before .before .before .before .before in
+    let at-fill-words = c .before .before .before .before .before .before .before .fill-words in
+    let at-if2 = c .before .before .before .before .before .if2 in
+    let table = entry .args .table .now in
+    let w = front-words table _ _ (length table / 2) refl (at-fill-words .ensures) in
+    host-whole (entry .args .n) table _ _ _ _ (at-if2 .left) w (c .before .before .evaluate-words .ensures)
 
 pub evaluate-bytes-spec : {M : Type 1} → statement M
 evaluate-bytes-spec =

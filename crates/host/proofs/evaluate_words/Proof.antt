@@ -1,12 +1,7 @@
 use borrow.Author.Needs.{needs}
 use Rattle.host.proofs.Evaluating.{words-refused, words-packable, words-evaluated}
-use borrow.Author.Needs.{needs}
 use Rattle.host.proofs.evaluate_words.Statement.{statement}
 use Rattle.host.proofs.evaluate_words.Tie as tie
-use Rattle.host.proofs.evaluate_words.Reads as reads
-use Rattle.host.proofs.evaluate_words.Lts as lts
-use Rattle.evaluation.proofs.evaluate.Reads as evaluate-reads
-use Rattle.host.proofs.pack.Reads as pack-reads
 
 evaluate-requires : tie.Need-evaluate-requires
 evaluate-requires c κs = search needs
@@ -19,21 +14,24 @@ enum-known-r c = search needs
 
 pack-requires : tie.Need-pack-requires
 pack-requires c κs =
-    words-packable _ _ _ _ (c .before .before .before .before .before .evaluate .result) _ (c .before .before .before .before .before .evaluate .ensures) (c .before .r .given .1)
+    let at-evaluate = c .before .before .before .before .before .evaluate in
+    words-packable _ _ _ _ (at-evaluate .result) _ (at-evaluate .ensures) (c .before .r .given .1)
 
 same-length : tie.Need-same-length
 same-length c = search needs
 
 returns : tie.Need-returns
 returns c =
-    words-evaluated _ _ _ _ (c .before .before .before .before .evaluate .result) (c .before .before .before .before .evaluate .ensures) (c .enum-told .given .1)
+    let at-evaluate = c .before .before .before .before .evaluate in
+    words-evaluated _ _ _ _ (at-evaluate .result) (at-evaluate .ensures) (c .enum-told .given .1)
 
 same-length-2 : tie.Need-same-length-2
 same-length-2 c = search needs
 
 returns-2 : tie.Need-returns-2
 returns-2 c =
-    words-refused _ _ _ _ (c .before .before .before .before .before .before .evaluate .result) _ _ (c .before .before .before .before .before .before .evaluate .ensures) (c .before .before .r .given .1) (c .pack .ensures)
+    let at-evaluate = c .before .before .before .before .before .before .evaluate in
+    words-refused _ _ _ _ (at-evaluate .result) _ _ (at-evaluate .ensures) (c .before .before .r .given .1) (c .pack .ensures)
 
 pub evaluate-words-spec : {M : Type 1} → statement M
 evaluate-words-spec =

@@ -1,14 +1,11 @@
 use borrow.Author.Needs.{needs}
 use Prim.Native.Nat.{_≤_, _-_, _/_}
 use native.Mathlib.Omega.{arith}
-use mathlib.Core.Path.{_≡_, refl, sym, ap, _∙_}
+use mathlib.Core.Path.{_≡_, refl, _∙_}
 use lib.ListN.{length, length-set}
 use Rattle.host.proofs.Bytes.{filled, fills-nothing, fills-one, fills-all}
 use Rattle.host.proofs.fill_words.Statement.{statement}
 use Rattle.host.proofs.fill_words.Tie as tie
-use Rattle.host.proofs.fill_words.Reads as reads
-use Rattle.host.proofs.fill_words.Lts as lts
-use Rattle.host.proofs.word_of.Reads as word-of-reads
 
 abbrev Inv-loop : tie.InvT-loop
 Inv-loop bytes words₀ m i₀ words i =
@@ -40,7 +37,14 @@ loop-less c = search needs
 
 loop-again : tie.Need-loop-again Inv-loop μ-loop
 loop-again c =
-    (omega arith, c .before .before .loop .inv .1, length-set (c .before .before .loop .words) (c .before .before .loop .i) (c .word-of .result) ∙ c .before .before .loop .inv .2, fills-one (c .before .before .before .before .before .args .bytes .now) (c .before .before .before .before .before .args .words .now) (c .before .before .loop .words) (c .before .before .loop .i) (c .word-of .result) (omega (arith, c .before .loop-test .taken, c .before .before .loop .inv .1)) (c .before .before .before .before .before .pre) (c .word-of .ensures) (c .before .before .loop .inv .3))
+    let entry = c .before .before .before .before .before in
+    let at-loop = c .before .before .loop in (
+      omega arith,
+      at-loop .inv .1,
+      length-set (at-loop .words) (at-loop .i) (c .word-of .result) ∙ at-loop .inv .2,
+      fills-one (entry .args .bytes .now) (entry .args .words .now) (at-loop .words) (at-loop .i) (c .word-of .result)
+          (omega (arith, c .before .loop-test .taken, at-loop .inv .1)) (entry .pre) (c .word-of .ensures) (at-loop .inv .3),
+    )
 
 same-length : tie.Need-same-length Inv-loop μ-loop
 same-length c = search needs

@@ -1,10 +1,7 @@
 use borrow.Author.Needs.{needs}
 use borrow.Author.Tests.{le-leb, lt-leb}
-use borrow.Author.Needs.{needs}
 use Rattle.host.proofs.too_long.Statement.{statement}
 use Rattle.host.proofs.too_long.Tie as tie
-use Rattle.host.proofs.too_long.Reads as reads
-use Rattle.host.proofs.too_long.Lts as lts
 
 mul-result : tie.Need-mul-result
 mul-result c = search needs

@@ -1,6 +1,6 @@
 use borrow.Author.Needs.{needs}
 use mathlib.Core.Path.{sym, ap, _∙_}
-use Rattle.hostsheet.specs.SheetBytes.{answerOf}
+use Rattle.hostsheet.specs.SheetBytes.{packedAnswer}
 use Rattle.hostsheet.proofs.answer.Statement.{statement}
 use Rattle.hostsheet.proofs.answer.Tie as tie
 
@@ -19,7 +19,7 @@ returns c = search needs
 
 returns-2 : tie.Need-returns-2
 returns-2 c =
-    c .pack .ensures ∙ ap answerOf (sym (c .before .before .r2 .given .1))
+    c .pack .ensures ∙ ap packedAnswer (sym (c .before .before .r2 .given .1))
 
 pub answer-spec : {M : Type 1} → statement M
 answer-spec = tie.close (tie.spec enum-known-r enum-known-r-2 pack-requires returns returns-2)

@@ -21,7 +21,13 @@ add-bytes c = search needs
 
 slice-write-bytes-2 : tie.Need-slice-write-bytes-2
 slice-write-bytes-2 c =
-    omega (arith, c .before .before .before .pre .0, length-set (set (c .before .before .before .args .bytes .now) (c .before .before .before .args .at) (c .before .low-byte .result)) (c .before .before .before .args .at + 1) (c .low-byte2 .result), length-set (c .before .before .before .args .bytes .now) (c .before .before .before .args .at) (c .before .low-byte .result))
+    let entry = c .before .before .before in
+    omega (
+      arith,
+      entry .pre .0,
+      length-set (set (entry .args .bytes .now) (entry .args .at) (c .before .low-byte .result)) (entry .args .at + 1) (c .low-byte2 .result),
+      length-set (entry .args .bytes .now) (entry .args .at) (c .before .low-byte .result),
+    )
 
 low-byte-requires-3 : tie.Need-low-byte-requires-3
 low-byte-requires-3 c κs = search needs
@@ -31,7 +37,17 @@ add-bytes-2 c = search needs
 
 slice-write-bytes-3 : tie.Need-slice-write-bytes-3
 slice-write-bytes-3 c =
-    omega (arith, c .before .before .before .before .pre .0, length-set (set (set (c .before .before .before .before .args .bytes .now) (c .before .before .before .before .args .at) (c .before .before .low-byte .result)) (c .before .before .before .before .args .at + 1) (c .before .low-byte2 .result)) (c .before .before .before .before .args .at + 2) (c .low-byte3 .result), length-set (set (c .before .before .before .before .args .bytes .now) (c .before .before .before .before .args .at) (c .before .before .low-byte .result)) (c .before .before .before .before .args .at + 1) (c .before .low-byte2 .result), length-set (c .before .before .before .before .args .bytes .now) (c .before .before .before .before .args .at) (c .before .before .low-byte .result))
+    let entry = c .before .before .before .before in
+    let at-low-byte = c .before .before .low-byte in
+    let bytes = entry .args .bytes .now in
+    omega (
+      arith,
+      entry .pre .0,
+      length-set (set (set bytes (entry .args .at) (at-low-byte .result)) (entry .args .at + 1) (c .before .low-byte2 .result))
+          (entry .args .at + 2) (c .low-byte3 .result),
+      length-set (set bytes (entry .args .at) (at-low-byte .result)) (entry .args .at + 1) (c .before .low-byte2 .result),
+      length-set bytes (entry .args .at) (at-low-byte .result),
+    )
 
 low-byte-requires-4 : tie.Need-low-byte-requires-4
 low-byte-requires-4 c κs = search needs
@@ -47,7 +63,9 @@ same-length c = search needs
 
 returns : tie.Need-returns
 returns c =
-    four-set (c .before .before .before .before .before .args .bytes .now) (c .before .before .before .before .before .args .at) (c .before .before .before .low-byte .ensures) (c .before .before .low-byte2 .ensures) (c .before .low-byte3 .ensures) (c .low-byte4 .ensures ∙ omega (arith, c .before .before .before .before .before .pre .1))
+    let entry = c .before .before .before .before .before in
+    four-set (entry .args .bytes .now) (entry .args .at) (c .before .before .before .low-byte .ensures)
+    (c .before .before .low-byte2 .ensures) (c .before .low-byte3 .ensures) (c .low-byte4 .ensures ∙ omega (arith, entry .pre .1))
 
 pub put-name-spec : {M : Type 1} → statement M
 put-name-spec =

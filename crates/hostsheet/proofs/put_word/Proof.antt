@@ -26,8 +26,9 @@ same-length c = search needs
 
 returns : tie.Need-returns
 returns c =
-    ap₂ (λ (x y : ℕ). set (set (c .before .before .before .args .bytes .now) (c .before .before .before .args .at) x) (c .before .before .before .args .at + 1) y) (c .before .low-byte .ensures)
-    (c .low-byte2 .ensures ∙ omega (arith, c .before .before .before .pre .1))
+    let entry = c .before .before .before in
+    ap₂ (λ (x y : ℕ). set (set (entry .args .bytes .now) (entry .args .at) x) (entry .args .at + 1) y) (c .before .low-byte .ensures)
+    (c .low-byte2 .ensures ∙ omega (arith, entry .pre .1))
 
 pub put-word-spec : {M : Type 1} → statement M
 put-word-spec =

@@ -31,21 +31,26 @@ read-sheet-requires c κs = search needs
 
 slice-aggregate-put-words : tie.Need-slice-aggregate-put-words
 slice-aggregate-put-words c =
-    length-local 8192 (c .before .before .before .before .before .before .before .before .before .before .room-for .result) (c .before .before .before .before .before .read-sheet .last .1 .0) (c .before .before .before .before .before .read-sheet .kept .1 .0)
+    let at-room-for = c .before .before .before .before .before .before .before .before .before .before .room-for in
+    let at-read-sheet = c .before .before .before .before .before .read-sheet in
+    length-local 8192 (at-room-for .result) (at-read-sheet .last .1 .0) (at-read-sheet .kept .1 .0)
 
 put-words-requires : tie.Need-put-words-requires
 put-words-requires c κs = search needs
 
 slice-aggregate-put-names : tie.Need-slice-aggregate-put-names
 slice-aggregate-put-names c =
-    length-local 512 (c .before .before .before .before .before .before .before .before .before .before .before .before .before .before .room-for2 .result) (c .before .before .before .before .before .before .before .before .before .before .read-sheet .last .1 .1 .0) (c .before .before .before .before .before .before .before .before .before .before .read-sheet .kept .1 .1 .0)
+    let at-room-for2 = c .before .before .before .before .before .before .before .before .before .before .before .before .before .before .room-for2 in
+    let at-read-sheet = c .before .before .before .before .before .before .before .before .before .before .read-sheet in
+    length-local 512 (at-room-for2 .result) (at-read-sheet .last .1 .1 .0) (at-read-sheet .kept .1 .1 .0)
 
 put-names-requires : tie.Need-put-names-requires
 put-names-requires c κs = search needs
 
 answer-requires : tie.Need-answer-requires
 answer-requires c κs =
-    has-room _ _ _ _ (c .before .before .before .before .before .before .before .before .before .before .before .before .before .before .read-sheet .ensures)
+    let at-read-sheet = c .before .before .before .before .before .before .before .before .before .before .before .before .before .before .read-sheet in
+    has-room _ _ _ _ (at-read-sheet .ensures)
 
 same-length : tie.Need-same-length
 same-length c = search needs
@@ -58,9 +63,20 @@ same-length-3 c = search needs
 
 returns : tie.Need-returns
 returns c =
-    host-answers (c .before .before .before .before .before .before .before .before .before .before .before .before .before .before .before .before .before .before .before .before .before .before .before .before .before .args .sheet .now) (c .before .before .before .before .before .before .before .before .before .before .before .before .before .before .before .before .before .before .before .before .before .before .before .before .before .args .words .now) (c .before .before .before .before .before .before .before .before .before .before .before .before .before .before .before .before .before .before .before .before .before .before .before .before .before .args .names .now) (c .before .before .before .before .before .before .before .before .before .before .before .before .before .before .before .before .before .before .before .before .before .before .before .before .before .args .text .now) (c .before .before .before .before .before .before .before .before .before .before .before .before .before .before .before .before .before .before .before .before .room-for .result) (c .before .before .before .before .before .before .before .before .before .before .before .before .before .before .before .before .before .before .before .room-for2 .result) _ _ 8192 512 (c .before .before .before .before .before .before .before .before .before .before .before .before .before .before .before .read-sheet .result) (c .before .before .before .before .before .before .before .before .before .before .before .before .before .before .before .read-sheet .last .1 .0) (c .before .before .before .before .before .before .before .before .before .before .before .before .before .before .before .read-sheet .last .1 .1 .0) (c .before .before .before .before .before .before .before .before .before .before .before .before .before .before .before .read-sheet .last .1 .1 .1 .0) (c .answer .result) (c .before .before .before .before .before .before .before .before .put-words .last .1 .0) (c .before .before .before .put-names .last .1 .0)
-    (c .before .before .before .before .before .before .before .before .before .before .before .before .before .before .before .before .before .before .before .before .room-for .ensures .0) (c .before .before .before .before .before .before .before .before .before .before .before .before .before .before .before .before .before .before .before .room-for2 .ensures .0) (sym (length-lent 8192 (c .before .before .before .before .before .before .before .before .before .before .before .before .before .before .before .before .before .before .before .before .room-for .result) (c .before .before .before .before .before .before .before .before .before .before .before .before .before .before .before .before .before .before .before .before .room-for .ensures .1))) (sym (length-lent 512 (c .before .before .before .before .before .before .before .before .before .before .before .before .before .before .before .before .before .before .before .room-for2 .result) (c .before .before .before .before .before .before .before .before .before .before .before .before .before .before .before .before .before .before .before .room-for2 .ensures .1)))
-    (c .before .before .before .before .before .before .before .before .before .before .before .before .before .before .before .read-sheet .ensures) (c .before .before .before .before .before .before .before .before .put-words .ensures) (c .before .before .before .put-names .ensures) (c .answer .ensures)
+    let entry = c .before .before .before .before .before .before .before .before .before .before .before .before
+    .before .before .before .before .before .before .before .before .before .before .before .before .before in
+    let at-room-for = c .before .before .before .before .before .before .before .before .before .before
+    .before .before .before .before .before .before .before .before .before .before .room-for in
+    let at-room-for2 = c .before .before .before .before .before .before .before .before .before
+    .before .before .before .before .before .before .before .before .before .before .room-for2 in
+    let at-read-sheet = c .before .before .before .before .before .before .before .before .before .before .before .before .before .before .before .read-sheet in
+    let at-put-words = c .before .before .before .before .before .before .before .before .put-words in
+    host-answers (entry .args .sheet .now) (entry .args .words .now) (entry .args .names .now) (entry .args .text .now) (at-room-for .result)
+    (at-room-for2 .result) _ _ 8192 512 (at-read-sheet .result) (at-read-sheet .last .1 .0) (at-read-sheet .last .1 .1 .0)
+    (at-read-sheet .last .1 .1 .1 .0) (c .answer .result) (at-put-words .last .1 .0) (c .before .before .before .put-names .last .1 .0)
+    (at-room-for .ensures .0) (at-room-for2 .ensures .0) (sym (length-lent 8192 (at-room-for .result) (at-room-for .ensures .1)))
+    (sym (length-lent 512 (at-room-for2 .result) (at-room-for2 .ensures .1)))
+    (at-read-sheet .ensures) (at-put-words .ensures) (c .before .before .before .put-names .ensures) (c .answer .ensures)
 
 pub sheet-bytes-spec : {M : Type 1} → statement M
 sheet-bytes-spec =

@@ -1,11 +1,7 @@
 use borrow.Author.Needs.{needs}
 use Rattle.least.proofs.Marked.{closed-clean}
-use borrow.Author.Needs.{needs}
 use Rattle.least.proofs.clean.Statement.{statement}
 use Rattle.least.proofs.clean.Tie as tie
-use Rattle.least.proofs.clean.Reads as reads
-use Rattle.least.proofs.clean.Lts as lts
-use Rattle.least.proofs.close.Reads as close-reads
 
 slice-aggregate-close : tie.Need-slice-aggregate-close
 slice-aggregate-close c = search needs

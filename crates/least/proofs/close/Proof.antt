@@ -1,14 +1,11 @@
 use borrow.Author.Needs.{needs}
-use mathlib.Core.Path.{_≡_, refl, sym, _∙_}
+use mathlib.Core.Path.{_≡_, _∙_}
 use lib.ListN.{length}
 use Rattle.bits.specs.Sets.{member}
 use Rattle.least.specs.Passing.{Records}
 use Rattle.least.proofs.Fixed.{Closing, closing-starts, closing-goes-on, closing-ends, left, left-falls}
 use Rattle.least.proofs.close.Statement.{statement}
 use Rattle.least.proofs.close.Tie as tie
-use Rattle.least.proofs.close.Reads as reads
-use Rattle.least.proofs.close.Lts as lts
-use Rattle.least.proofs.pass.Reads as pass-reads
 
 abbrev Inv-loop : tie.InvT-loop
 Inv-loop table set₀ marks again₀ set again =
@@ -28,11 +25,16 @@ pass-requires c κs =
 
 loop-less : tie.Need-loop-less Inv-loop μ-loop
 loop-less c =
-    left-falls _ _ _ _ _ _ (c .before .before .before .before .loop-test .taken) (c .before .before .pass .ensures)
+    let at-loop-test = c .before .before .before .before .loop-test in
+    left-falls _ _ _ _ _ _ (at-loop-test .taken) (c .before .before .pass .ensures)
 
 loop-again : tie.Need-loop-again Inv-loop μ-loop
 loop-again c =
-    (c .before .before .pass .ensures .length-same ∙ c .before .before .before .before .before .loop .inv .0, c .before .before .before .before .before .loop .inv .1, closing-goes-on _ _ _ _ _ _ _ (c .before .before .before .before .before .loop .inv .2) (c .before .before .pass .ensures))
+    let at-loop = c .before .before .before .before .before .loop in (
+      c .before .before .pass .ensures .length-same ∙ at-loop .inv .0,
+      at-loop .inv .1,
+      closing-goes-on _ _ _ _ _ _ _ (at-loop .inv .2) (c .before .before .pass .ensures),
+    )
 
 same-length : tie.Need-same-length Inv-loop μ-loop
 same-length c = search needs

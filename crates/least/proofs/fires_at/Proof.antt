@@ -1,14 +1,8 @@
 use borrow.Author.Needs.{needs}
 use Rattle.bits.specs.Sets.{member}
 use Rattle.least.proofs.Passing.{fires-there}
-use borrow.Author.Needs.{needs}
 use Rattle.least.proofs.fires_at.Statement.{statement}
 use Rattle.least.proofs.fires_at.Tie as tie
-use Rattle.least.proofs.fires_at.Reads as reads
-use Rattle.least.proofs.fires_at.Lts as lts
-use Rattle.least.proofs.is_fact.Reads as is-fact-reads
-use Rattle.least.proofs.read_body.Reads as read-body-reads
-use Rattle.words.proofs.word.Reads as word-reads
 
 add-word : tie.Need-add-word
 add-word c = search needs
@@ -24,11 +18,15 @@ is-fact-requires c κs = search needs
 
 read-body-requires : tie.Need-read-body-requires
 read-body-requires c κs =
-    (c .before .before .before .before .pre .0, rw (c .before .word .ensures .0) (c .before .before .before .before .pre .1))
+    let entry = c .before .before .before .before in
+    (entry .pre .0, rw (c .before .word .ensures .0) (entry .pre .1))
 
 returns : tie.Need-returns
 returns c =
-    fires-there (member (c .before .before .before .before .before .args .set .now)) (c .before .before .before .before .before .args .table .now) (c .before .before .before .before .before .args .at) (c .before .before .word .result) (c .before .is-fact .result) (c .read-body .result .fires) (c .read-body .result .next) (c .before .before .word .ensures .0) (c .before .before .before .before .before .pre .1) (c .before .is-fact .ensures) (c .read-body .ensures)
+    let entry = c .before .before .before .before .before in
+    fires-there (member (entry .args .set .now)) (entry .args .table .now) (entry .args .at) (c .before .before .word .result)
+    (c .before .is-fact .result) (c .read-body .result .fires) (c .read-body .result .next)
+    (c .before .before .word .ensures .0) (entry .pre .1) (c .before .is-fact .ensures) (c .read-body .ensures)
 
 pub fires-at-spec : {M : Type 1} → statement M
 fires-at-spec =

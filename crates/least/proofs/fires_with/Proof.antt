@@ -1,10 +1,6 @@
 use borrow.Author.Needs.{needs}
-use borrow.Author.Needs.{needs}
 use Rattle.least.proofs.fires_with.Statement.{statement}
 use Rattle.least.proofs.fires_with.Tie as tie
-use Rattle.least.proofs.fires_with.Reads as reads
-use Rattle.least.proofs.fires_with.Lts as lts
-use Rattle.least.proofs.group_in.Reads as group-in-reads
 
 group-in-requires : tie.Need-group-in-requires
 group-in-requires c κs = search needs

@@ -2,17 +2,13 @@ use borrow.Author.Needs.{needs}
 use Prim.Native.Nat.{_≤_, _-_, _+_}
 use native.Mathlib.Omega.{arith}
 use native.Mathlib.Nat.{sub-zero, add-zero}
-use mathlib.Core.Path.{_≡_, refl, sym}
-use lib.ListN.{length, take, drop}
+use mathlib.Core.Path.{_≡_}
+use lib.ListN.{take, drop}
 use Rattle.bits.specs.Sets.{member}
-use Rattle.paper.proofs.Closure.{wholly}
+use Rattle.paper.specs.Fires.{wholly}
 use Rattle.least.proofs.Walk.{group-goes-on, group-stops, group-ends}
 use Rattle.least.proofs.group_in.Statement.{statement}
 use Rattle.least.proofs.group_in.Tie as tie
-use Rattle.least.proofs.group_in.Reads as reads
-use Rattle.least.proofs.group_in.Lts as lts
-use Rattle.bits.proofs.has.Reads as has-reads
-use Rattle.words.proofs.word.Reads as word-reads
 
 abbrev Inv-loop : tie.InvT-loop
 Inv-loop table set at k i₀ i =
@@ -43,11 +39,19 @@ loop-less c = search needs
 
 loop-again : tie.Need-loop-again Inv-loop μ-loop
 loop-again c =
-    (omega arith, group-goes-on _ _ _ _ _ _ _ (c .before .before .before .before .before .before .before .pre) (c .before .before .before .loop-test .taken) (c .before .before .word .ensures .0) (c .before .has .ensures) (c .if1 .taken) (c .before .before .before .before .loop .inv .1))
+    let entry = c .before .before .before .before .before .before .before in
+    let at-loop = c .before .before .before .before .loop in (
+      omega arith,
+      group-goes-on _ _ _ _ _ _ _ (entry .pre) (c .before .before .before .loop-test .taken)
+          (c .before .before .word .ensures .0) (c .before .has .ensures) (c .if1 .taken) (at-loop .inv .1),
+    )
 
 returns : tie.Need-returns Inv-loop μ-loop
 returns c =
-    group-stops _ _ _ _ _ _ _ (c .before .before .before .before .before .before .before .pre) (c .before .before .before .loop-test .taken) (c .before .before .word .ensures .0) (c .before .has .ensures) (c .if1 .left) (c .before .before .before .before .loop .inv .1)
+    let entry = c .before .before .before .before .before .before .before in
+    let at-loop = c .before .before .before .before .loop in
+    group-stops _ _ _ _ _ _ _ (entry .pre) (c .before .before .before .loop-test .taken)
+    (c .before .before .word .ensures .0) (c .before .has .ensures) (c .if1 .left) (at-loop .inv .1)
 
 returns-2 : tie.Need-returns-2 Inv-loop μ-loop
 returns-2 c =

@@ -1,17 +1,13 @@
 use borrow.Author.Needs.{needs}
-use Prim.Native.Nat.{_≤_, _-_, _+_}
+use Prim.Native.Nat.{_-_}
 use native.Mathlib.Omega.{arith}
-use mathlib.Core.Path.{_≡_, refl, sym, _∙_}
+use mathlib.Core.Path.{_≡_, _∙_}
 use lib.ListN.{length}
 use Rattle.bits.specs.Sets.{member}
-use Rattle.least.specs.Passing.{Records, Moved, Passed}
+use Rattle.least.specs.Passing.{Moved}
 use Rattle.least.proofs.Passing.{moved-start, moved-on, moved-all}
 use Rattle.least.proofs.pass.Statement.{statement}
 use Rattle.least.proofs.pass.Tie as tie
-use Rattle.least.proofs.pass.Reads as reads
-use Rattle.least.proofs.pass.Lts as lts
-use Rattle.least.proofs.either.Reads as either-reads
-use Rattle.least.proofs.pass_record.Reads as pass-record-reads
 
 abbrev Inv-loop : tie.InvT-loop
 Inv-loop table set₀ marks at₀ changed₀ set at changed =
@@ -34,11 +30,18 @@ either-requires c κs = search needs
 
 loop-less : tie.Need-loop-less Inv-loop μ-loop
 loop-less c =
-    omega (arith, c .before .before .before .pass-record .ensures .1, c .before .before .before .before .before .loop-test .taken)
+    let at-loop-test = c .before .before .before .before .before .loop-test in
+    omega (arith, c .before .before .before .pass-record .ensures .1, at-loop-test .taken)
 
 loop-again : tie.Need-loop-again Inv-loop μ-loop
 loop-again c =
-    (c .before .before .before .pass-record .ensures .0 .length-same ∙ c .before .before .before .before .before .before .loop .inv .0, moved-on _ (c .before .before .before .before .before .before .before .before .before .before .args .table .now) (c .before .before .before .before .before .before .loop .at) (c .before .before .before .pass-record .result .next) _ _ _ (c .before .before .before .before .before .before .loop .changed) (c .before .before .before .pass-record .result .changed) (c .before .before .before .before .before .before .loop .inv .1) (c .before .before .before .pass-record .ensures .0) (c .either .ensures))
+    let entry = c .before .before .before .before .before .before .before .before .before .before in
+    let at-loop = c .before .before .before .before .before .before .loop in
+    let at-pass-record = c .before .before .before .pass-record in (
+      at-pass-record .ensures .0 .length-same ∙ at-loop .inv .0,
+      moved-on _ (entry .args .table .now) (at-loop .at) (at-pass-record .result .next) _ _ _
+          (at-loop .changed) (at-pass-record .result .changed) (at-loop .inv .1) (at-pass-record .ensures .0) (c .either .ensures),
+    )
 
 same-length : tie.Need-same-length Inv-loop μ-loop
 same-length c = search needs

@@ -1,15 +1,11 @@
 use borrow.Author.Needs.{needs}
-use Prim.Native.Nat.{_≤_, _-_, _+_}
-use native.Mathlib.Omega.{arith}
-use mathlib.Core.Path.{_≡_, refl, sym, ap, _∙_}
+use Prim.Native.Nat.{_-_}
+use mathlib.Core.Path.{_≡_, ap, _∙_}
 use lib.ListN.{length}
 use Rattle.bits.specs.Sets.{member}
 use Rattle.least.proofs.Marked.{Marking-below, marking-starts, marking-goes-on, marking-ends, length-pair}
 use Rattle.least.proofs.put_marked.Statement.{statement}
 use Rattle.least.proofs.put_marked.Tie as tie
-use Rattle.least.proofs.put_marked.Reads as reads
-use Rattle.least.proofs.put_marked.Lts as lts
-use Rattle.least.proofs.put_pair.Reads as put-pair-reads
 
 abbrev Inv-loop : tie.InvT-loop
 Inv-loop set₀ marks a₀ set a =
@@ -34,7 +30,14 @@ loop-less c = search needs
 
 loop-again : tie.Need-loop-again Inv-loop μ-loop
 loop-again c =
-    (ap length (c .before .before .put-pair .ensures) ∙ length-pair (c .before .before .before .before .before .loop .set) (c .before .before .before .before .before .loop .a) (member (c .before .before .before .before .before .before .before .before .args .marks .now) (c .before .before .before .before .before .loop .a)) ∙ c .before .before .before .before .before .loop .inv .0, c .before .before .before .before .before .loop .inv .1, marking-goes-on _ _ _ _ _ (c .before .before .before .before .before .loop .inv .0) (c .before .before .before .before .loop-test .taken) (c .before .before .before .before .before .loop .inv .2) (c .before .before .put-pair .ensures))
+    let entry = c .before .before .before .before .before .before .before .before in
+    let at-loop = c .before .before .before .before .before .loop in
+    let at-loop-test = c .before .before .before .before .loop-test in (
+      ap length (c .before .before .put-pair .ensures)
+          ∙ length-pair (at-loop .set) (at-loop .a) (member (entry .args .marks .now) (at-loop .a)) ∙ at-loop .inv .0,
+      at-loop .inv .1,
+      marking-goes-on _ _ _ _ _ (at-loop .inv .0) (at-loop-test .taken) (at-loop .inv .2) (c .before .before .put-pair .ensures),
+    )
 
 same-length : tie.Need-same-length Inv-loop μ-loop
 same-length c = search needs

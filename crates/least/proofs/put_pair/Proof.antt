@@ -2,13 +2,8 @@ use borrow.Author.Needs.{needs}
 use mathlib.Core.Path.{sym, _∙_, ap}
 use Rattle.bits.specs.Sets.{putIn}
 use Rattle.paper.specs.Rules.{negative}
-use borrow.Author.Needs.{needs}
 use Rattle.least.proofs.put_pair.Statement.{statement}
 use Rattle.least.proofs.put_pair.Tie as tie
-use Rattle.least.proofs.put_pair.Reads as reads
-use Rattle.least.proofs.put_pair.Lts as lts
-use Rattle.bits.proofs.has.Reads as has-reads
-use Rattle.bits.proofs.put.Reads as put-reads
 
 has-requires : tie.Need-has-requires
 has-requires c κs = search needs
@@ -33,7 +28,11 @@ same-length c = search needs
 
 returns : tie.Need-returns
 returns c =
-    rw (sym (c .before .before .before .before .before .before .before .before .before .has .ensures), c .before .before .before .before .before .before .before .before .if1 .taken) (c .before .before .put2 .ensures ∙ ap (λ s. putIn s (negative (c .before .before .before .before .before .before .before .before .before .before .before .before .args .a))) (c .before .before .before .before .before .before .put .ensures))
+    let entry = c .before .before .before .before .before .before .before .before .before .before .before .before in
+    let at-has = c .before .before .before .before .before .before .before .before .before .has in
+    let at-if1 = c .before .before .before .before .before .before .before .before .if1 in
+    let at-put = c .before .before .before .before .before .before .put in
+    rw (sym (at-has .ensures), at-if1 .taken) (c .before .before .put2 .ensures ∙ ap (λ s. putIn s (negative (entry .args .a))) (at-put .ensures))
 
 returns-2 : tie.Need-returns-2
 returns-2 c =

@@ -1,24 +1,22 @@
 use borrow.Author.Needs.{needs}
-use Prim.Native.Nat.{_≤_, _-_, _+_}
+use Prim.Native.Nat.{_≤_}
 use native.Mathlib.Omega.{arith}
-use mathlib.Core.Path.{_≡_, refl, sym, _∙_}
+use mathlib.Core.Path.{_≡_, refl, _∙_}
 use mathlib.Core.Bool.{_||_}
-use lib.ListN.{length, take, drop}
+use lib.ListN.{length, drop}
 use Rattle.bits.specs.Sets.{member}
-use Rattle.words.specs.Layout.{WholeGroups, takeGroups, dropGroups}
-use Rattle.paper.proofs.Closure.{wholly, someWholly}
-use Rattle.least.specs.Walk.{BodyRead}
-use Rattle.least.proofs.Walk.{Turned, group-fits, body-goes-on, body-ends}
+use Rattle.words.specs.RecordAt.{WholeGroups}
+use Rattle.words.specs.Layout.{takeGroups, dropGroups}
+use Rattle.paper.specs.Fires.{someWholly}
+use Rattle.least.proofs.Walk.{group-fits, body-goes-on, body-ends}
 use Rattle.least.proofs.read_body.Statement.{statement}
 use Rattle.least.proofs.read_body.Tie as tie
-use Rattle.least.proofs.read_body.Reads as reads
-use Rattle.least.proofs.read_body.Lts as lts
-use Rattle.least.proofs.fires_with.Reads as fires-with-reads
-use Rattle.words.proofs.word.Reads as word-reads
 
 abbrev Inv-loop : tie.InvT-loop
 Inv-loop table set first m fired at₀ left₀ fires₀ at left fires =
-    (at ≤ length table) × (first ≤ at) × (WholeGroups left (drop at table)) × ((fires || someWholly (member set) (takeGroups left (drop at table))) ≡ (fired || someWholly (member set) (takeGroups m (drop first table)))) × (dropGroups left (drop at table) ≡ dropGroups m (drop first table))
+    (at ≤ length table) × (first ≤ at) × (WholeGroups left (drop at table))
+    × ((fires || someWholly (member set) (takeGroups left (drop at table))) ≡ (fired || someWholly (member set) (takeGroups m (drop first table))))
+    × (dropGroups left (drop at table) ≡ dropGroups m (drop first table))
 
 abbrev μ-loop : tie.MeasureT-loop
 μ-loop table set first m fired at₀ left₀ fires₀ at left fires =
@@ -33,19 +31,39 @@ word-requires c κs = search needs
 
 add-fires-with : tie.Need-add-fires-with Inv-loop μ-loop
 add-fires-with c =
-    omega (arith, group-fits (c .before .before .before .before .before .args .table .now) (c .before .before .loop .at) (c .before .before .loop .left) (c .word .result) (c .before .before .loop .inv .2) (c .before .loop-test .taken) (c .word .ensures .0))
+    let entry = c .before .before .before .before .before in
+    let at-loop = c .before .before .loop in
+    omega (
+      arith,
+      group-fits
+          (entry .args .table .now) (at-loop .at) (at-loop .left) (c .word .result) (at-loop .inv .2) (c .before .loop-test .taken) (c .word .ensures .0),
+    )
 
 fires-with-requires : tie.Need-fires-with-requires Inv-loop μ-loop
 fires-with-requires c κs =
-    group-fits (c .before .before .before .before .before .args .table .now) (c .before .before .loop .at) (c .before .before .loop .left) (c .word .result) (c .before .before .loop .inv .2) (c .before .loop-test .taken) (c .word .ensures .0)
+    let entry = c .before .before .before .before .before in
+    let at-loop = c .before .before .loop in
+    group-fits (entry .args .table .now) (at-loop .at) (at-loop .left) (c .word .result) (at-loop .inv .2) (c .before .loop-test .taken) (c .word .ensures .0)
 
 add-at : tie.Need-add-at Inv-loop μ-loop
 add-at c =
-    omega (arith, group-fits (c .before .before .before .before .before .before .args .table .now) (c .before .before .before .loop .at) (c .before .before .before .loop .left) (c .before .word .result) (c .before .before .before .loop .inv .2) (c .before .before .loop-test .taken) (c .before .word .ensures .0))
+    let entry = c .before .before .before .before .before .before in
+    let at-loop = c .before .before .before .loop in
+    omega (
+      arith,
+      group-fits (entry .args .table .now) (at-loop .at) (at-loop .left) (c .before .word .result)
+          (at-loop .inv .2) (c .before .before .loop-test .taken) (c .before .word .ensures .0),
+    )
 
 add-at-2 : tie.Need-add-at-2 Inv-loop μ-loop
 add-at-2 c =
-    omega (arith, group-fits (c .before .before .before .before .before .before .args .table .now) (c .before .before .before .loop .at) (c .before .before .before .loop .left) (c .before .word .result) (c .before .before .before .loop .inv .2) (c .before .before .loop-test .taken) (c .before .word .ensures .0))
+    let entry = c .before .before .before .before .before .before in
+    let at-loop = c .before .before .before .loop in
+    omega (
+      arith,
+      group-fits (entry .args .table .now) (at-loop .at) (at-loop .left) (c .before .word .result)
+          (at-loop .inv .2) (c .before .before .loop-test .taken) (c .before .word .ensures .0),
+    )
 
 sub-left : tie.Need-sub-left Inv-loop μ-loop
 sub-left c = search needs
@@ -55,12 +73,17 @@ loop-less c = search needs
 
 loop-again : tie.Need-loop-again Inv-loop μ-loop
 loop-again c =
-    let q = body-goes-on (member (c .before .before .before .before .before .before .args .set .now)) (c .before .before .before .before .before .before .args .table .now) (c .before .before .before .loop .at) (c .before .before .before .loop .left) (c .before .word .result) (c .before .before .before .loop .fires) (c .fires-with .result) (c .before .before .before .loop .inv .2) (c .before .before .loop-test .taken) (c .before .word .ensures .0) (c .fires-with .ensures) in
-    (q .inside, omega arith, q .whole, q .fires-same ∙ c .before .before .before .loop .inv .3, q .after-same ∙ c .before .before .before .loop .inv .4)
+    let entry = c .before .before .before .before .before .before in
+    let at-loop = c .before .before .before .loop in
+    let q = body-goes-on (member (entry .args .set .now)) (entry .args .table .now) (at-loop .at) (at-loop .left) (c .before .word .result) (at-loop .fires)
+    (c .fires-with .result) (at-loop .inv .2) (c .before .before .loop-test .taken) (c .before .word .ensures .0) (c .fires-with .ensures) in
+    (q .inside, omega arith, q .whole, q .fires-same ∙ at-loop .inv .3, q .after-same ∙ at-loop .inv .4)
 
 returns : tie.Need-returns Inv-loop μ-loop
 returns c =
-    body-ends (member (c .before .before .before .before .args .set .now)) (c .before .before .before .before .args .table .now) (c .before .before .before .before .args .first) (c .before .before .before .before .args .m) (c .before .before .before .before .args .fired) (c .before .loop .at) (c .before .loop .left) (c .before .loop .fires) (c .loop-test .left) (c .before .loop .inv)
+    let entry = c .before .before .before .before in
+    body-ends (member (entry .args .set .now)) (entry .args .table .now) (entry .args .first) (entry .args .m) (entry .args .fired)
+    (c .before .loop .at) (c .before .loop .left) (c .before .loop .fires) (c .loop-test .left) (c .before .loop .inv)
 
 pub read-body-spec : {M : Type 1} → statement M
 read-body-spec =

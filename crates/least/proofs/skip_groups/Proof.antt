@@ -1,17 +1,14 @@
 use borrow.Author.Needs.{needs}
-use Prim.Native.Nat.{_≤_, _-_, _+_}
+use Prim.Native.Nat.{_≤_}
 use native.Mathlib.Omega.{arith}
-use mathlib.Core.Path.{_≡_, refl, sym, _∙_}
+use mathlib.Core.Path.{_≡_, refl, _∙_}
 use mathlib.Core.Bool.{true, false}
-use lib.ListN.{length, take, drop}
-use Rattle.words.specs.Layout.{WholeGroups, dropGroups}
-use Rattle.least.specs.Walk.{GroupsSkipped}
+use lib.ListN.{length, drop}
+use Rattle.words.specs.RecordAt.{WholeGroups}
+use Rattle.words.specs.Layout.{dropGroups}
 use Rattle.least.proofs.Walk.{group-fits, body-goes-on, groups-end}
 use Rattle.least.proofs.skip_groups.Statement.{statement}
 use Rattle.least.proofs.skip_groups.Tie as tie
-use Rattle.least.proofs.skip_groups.Reads as reads
-use Rattle.least.proofs.skip_groups.Lts as lts
-use Rattle.words.proofs.word.Reads as word-reads
 
 abbrev Inv-loop : tie.InvT-loop
 Inv-loop table first m at₀ left₀ at left =
@@ -30,11 +27,23 @@ word-requires c κs = search needs
 
 add-at : tie.Need-add-at Inv-loop μ-loop
 add-at c =
-    omega (arith, group-fits (c .before .before .before .before .args .table .now) (c .before .before .loop .at) (c .before .before .loop .left) (c .word .result) (c .before .before .loop .inv .2) (c .before .loop-test .taken) (c .word .ensures .0))
+    let entry = c .before .before .before .before in
+    let at-loop = c .before .before .loop in
+    omega (
+      arith,
+      group-fits
+          (entry .args .table .now) (at-loop .at) (at-loop .left) (c .word .result) (at-loop .inv .2) (c .before .loop-test .taken) (c .word .ensures .0),
+    )
 
 add-at-2 : tie.Need-add-at-2 Inv-loop μ-loop
 add-at-2 c =
-    omega (arith, group-fits (c .before .before .before .before .args .table .now) (c .before .before .loop .at) (c .before .before .loop .left) (c .word .result) (c .before .before .loop .inv .2) (c .before .loop-test .taken) (c .word .ensures .0))
+    let entry = c .before .before .before .before in
+    let at-loop = c .before .before .loop in
+    omega (
+      arith,
+      group-fits
+          (entry .args .table .now) (at-loop .at) (at-loop .left) (c .word .result) (at-loop .inv .2) (c .before .loop-test .taken) (c .word .ensures .0),
+    )
 
 sub-left : tie.Need-sub-left Inv-loop μ-loop
 sub-left c = search needs
@@ -44,12 +53,17 @@ loop-less c = search needs
 
 loop-again : tie.Need-loop-again Inv-loop μ-loop
 loop-again c =
-    let q = body-goes-on (λ l. false) (c .before .before .before .before .args .table .now) (c .before .before .loop .at) (c .before .before .loop .left) (c .word .result) true true (c .before .before .loop .inv .2) (c .before .loop-test .taken) (c .word .ensures .0) refl in
-    (q .inside, omega arith, q .whole, q .after-same ∙ c .before .before .loop .inv .3)
+    let entry = c .before .before .before .before in
+    let at-loop = c .before .before .loop in
+    let q = body-goes-on (λ l. false) (entry .args .table .now) (at-loop .at) (at-loop .left) (c .word .result) true true
+    (at-loop .inv .2) (c .before .loop-test .taken) (c .word .ensures .0) refl in
+    (q .inside, omega arith, q .whole, q .after-same ∙ at-loop .inv .3)
 
 returns : tie.Need-returns Inv-loop μ-loop
 returns c =
-    groups-end (c .before .before .before .args .table .now) (c .before .before .before .args .first) (c .before .before .before .args .m) (c .before .loop .at) (c .before .loop .left) (c .loop-test .left) (c .before .loop .inv)
+    let entry = c .before .before .before in
+    groups-end (entry .args .table .now) (entry .args .first) (entry .args .m)
+    (c .before .loop .at) (c .before .loop .left) (c .loop-test .left) (c .before .loop .inv)
 
 pub skip-groups-spec : {M : Type 1} → statement M
 skip-groups-spec =

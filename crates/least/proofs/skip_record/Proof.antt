@@ -3,13 +3,8 @@ use mathlib.Core.Path.{subst}
 use Prim.Native.Nat.{ℕ}
 use Rattle.words.specs.Layout.{bodyAt}
 use Rattle.least.specs.Walk.{GroupsSkipped}
-use borrow.Author.Needs.{needs}
 use Rattle.least.proofs.skip_record.Statement.{statement}
 use Rattle.least.proofs.skip_record.Tie as tie
-use Rattle.least.proofs.skip_record.Reads as reads
-use Rattle.least.proofs.skip_record.Lts as lts
-use Rattle.least.proofs.skip_groups.Reads as skip-groups-reads
-use Rattle.words.proofs.word.Reads as word-reads
 
 add-word : tie.Need-add-word
 add-word c = search needs
@@ -26,7 +21,8 @@ skip-groups-requires c κs =
 
 returns : tie.Need-returns
 returns c =
-    subst (λ (m : ℕ). GroupsSkipped (c .before .before .before .args .table .now) (bodyAt (c .before .before .before .args .at)) m (c .skip-groups .result)) (c .before .word .ensures .0) (c .skip-groups .ensures)
+    subst (λ (m : ℕ). GroupsSkipped (c .before .before .before .args .table .now) (bodyAt (c .before .before .before .args .at)) m (c .skip-groups .result))
+    (c .before .word .ensures .0) (c .skip-groups .ensures)
 
 pub skip-record-spec : {M : Type 1} → statement M
 skip-record-spec =

@@ -1,11 +1,7 @@
 use borrow.Author.Needs.{needs}
 use mathlib.Core.Path.{sym}
-use borrow.Author.Needs.{needs}
 use Rattle.least.proofs.skips_head.Statement.{statement}
 use Rattle.least.proofs.skips_head.Tie as tie
-use Rattle.least.proofs.skips_head.Reads as reads
-use Rattle.least.proofs.skips_head.Lts as lts
-use Rattle.bits.proofs.has.Reads as has-reads
 
 has-requires : tie.Need-has-requires
 has-requires c κs = search needs

@@ -1,16 +1,8 @@
 use borrow.Author.Needs.{needs}
-use mathlib.Core.Path.{sym}
-use lib.Dec.{T}
 use Rattle.bits.specs.Sets.{member}
 use Rattle.marking.proofs.Markable.{markable-is}
-use borrow.Author.Needs.{needs}
 use Rattle.marking.proofs.can_be_marked.Statement.{statement}
 use Rattle.marking.proofs.can_be_marked.Tie as tie
-use Rattle.marking.proofs.can_be_marked.Reads as reads
-use Rattle.marking.proofs.can_be_marked.Lts as lts
-use Rattle.least.proofs.clean.Reads as clean-reads
-use Rattle.least.proofs.held.Reads as held-reads
-use Rattle.marking.proofs.is_markable.Reads as is-markable-reads
 
 held-requires : tie.Need-held-requires
 held-requires c κs = search needs
@@ -29,7 +21,10 @@ is-markable-requires c κs = search needs
 
 returns : tie.Need-returns
 returns c =
-    rw (c .is-markable .ensures) (markable-is _ (member (c .before .before .before .before .before .before .before .args .marks .now)) (member (c .before .before .before .before .held .result)) (member (c .before .before .before .clean .result)) (c .before .before .before .before .held .ensures) (c .before .before .before .clean .ensures) (c .before .before .before .before .before .before .before .args .a))
+    let entry = c .before .before .before .before .before .before .before in
+    let at-held = c .before .before .before .before .held in
+    rw (c .is-markable .ensures) (markable-is _ (member (entry .args .marks .now)) (member (at-held .result))
+    (member (c .before .before .before .clean .result)) (at-held .ensures) (c .before .before .before .clean .ensures) (entry .args .a))
 
 pub can-be-marked-spec : {M : Type 1} → statement M
 can-be-marked-spec =

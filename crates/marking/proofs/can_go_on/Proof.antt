@@ -1,15 +1,8 @@
 use borrow.Author.Needs.{needs}
-use mathlib.Core.Path.{sym}
 use Rattle.bits.specs.Sets.{member}
 use Rattle.marking.proofs.Markable.{goes-on}
-use borrow.Author.Needs.{needs}
 use Rattle.marking.proofs.can_go_on.Statement.{statement}
 use Rattle.marking.proofs.can_go_on.Tie as tie
-use Rattle.marking.proofs.can_go_on.Reads as reads
-use Rattle.marking.proofs.can_go_on.Lts as lts
-use Rattle.least.proofs.clean.Reads as clean-reads
-use Rattle.least.proofs.held.Reads as held-reads
-use Rattle.marking.proofs.some_markable.Reads as some-markable-reads
 
 held-requires : tie.Need-held-requires
 held-requires c κs = search needs
@@ -28,7 +21,10 @@ some-markable-requires c κs = search needs
 
 returns : tie.Need-returns
 returns c =
-    goes-on _ (member (c .before .before .before .before .before .before .before .args .marks .now)) _ _ (c .before .before .before .before .held .ensures) (c .before .before .before .clean .ensures) (c .before .before .before .before .before .before .before .args .n) (c .before .before .before .before .before .before .before .pre .3) _ (c .some-markable .ensures)
+    let entry = c .before .before .before .before .before .before .before in
+    let at-held = c .before .before .before .before .held in
+    goes-on _ (member (entry .args .marks .now)) _ _
+    (at-held .ensures) (c .before .before .before .clean .ensures) (entry .args .n) (entry .pre .3) _ (c .some-markable .ensures)
 
 pub can-go-on-spec : {M : Type 1} → statement M
 can-go-on-spec =

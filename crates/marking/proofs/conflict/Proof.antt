@@ -1,14 +1,8 @@
 use borrow.Author.Needs.{needs}
 use mathlib.Core.Path.{sym, _∙_}
 use mathlib.Core.Bool.{or-false}
-use borrow.Author.Needs.{needs}
 use Rattle.marking.proofs.conflict.Statement.{statement}
 use Rattle.marking.proofs.conflict.Tie as tie
-use Rattle.marking.proofs.conflict.Reads as reads
-use Rattle.marking.proofs.conflict.Lts as lts
-use Rattle.bits.proofs.has.Reads as has-reads
-use Rattle.marking.proofs.held_not_clean.Reads as held-not-clean-reads
-use Rattle.marking.proofs.not_clean.Reads as not-clean-reads
 
 mul-has : tie.Need-mul-has
 mul-has c = search needs
@@ -37,7 +31,9 @@ not-clean-requires c κs = search needs
 
 returns-2 : tie.Need-returns-2
 returns-2 c =
-    rw (sym (c .before .before .before .before .has .ensures), c .before .before .before .if1 .taken, sym (c .before .before .has2 .ensures), c .before .if2 .left) (c .not-clean .ensures ∙ sym (or-false _))
+    let at-has = c .before .before .before .before .has in
+    rw (sym (at-has .ensures), c .before .before .before .if1 .taken, sym (c .before .before .has2 .ensures), c .before .if2 .left)
+    (c .not-clean .ensures ∙ sym (or-false _))
 
 mul-held-not-clean : tie.Need-mul-held-not-clean
 mul-held-not-clean c = search needs

@@ -1,12 +1,7 @@
 use borrow.Author.Needs.{needs}
 use mathlib.Core.Path.{sym}
-use borrow.Author.Needs.{needs}
 use Rattle.marking.proofs.is_markable.Statement.{statement}
 use Rattle.marking.proofs.is_markable.Tie as tie
-use Rattle.marking.proofs.is_markable.Reads as reads
-use Rattle.marking.proofs.is_markable.Lts as lts
-use Rattle.bits.proofs.has.Reads as has-reads
-use Rattle.marking.proofs.conflict.Reads as conflict-reads
 
 has-requires : tie.Need-has-requires
 has-requires c κs = search needs

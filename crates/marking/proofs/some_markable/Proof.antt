@@ -7,9 +7,6 @@ use Rattle.marking.specs.Markable.{markableBelow}
 use Rattle.marking.proofs.Turns.{markable-goes-on, markable-found, markable-end}
 use Rattle.marking.proofs.some_markable.Statement.{statement}
 use Rattle.marking.proofs.some_markable.Tie as tie
-use Rattle.marking.proofs.some_markable.Reads as reads
-use Rattle.marking.proofs.some_markable.Lts as lts
-use Rattle.marking.proofs.is_markable.Reads as is-markable-reads
 
 abbrev Inv-loop : tie.InvT-loop
 Inv-loop marks held clean n a₀ a =
@@ -31,14 +28,18 @@ is-markable-requires c κs = search needs
 
 returns : tie.Need-returns Inv-loop μ-loop
 returns c =
-    markable-found _ _ _ (c .before .before .before .loop .a) _ (c .before .before .loop-test .taken) (c .before .is-markable .ensures) (c .if1 .taken) (c .before .before .before .loop .inv .1)
+    markable-found _ _ _ (c .before .before .before .loop .a) _
+    (c .before .before .loop-test .taken) (c .before .is-markable .ensures) (c .if1 .taken) (c .before .before .before .loop .inv .1)
 
 loop-less : tie.Need-loop-less Inv-loop μ-loop
 loop-less c = search needs
 
 loop-again : tie.Need-loop-again Inv-loop μ-loop
-loop-again c =
-    (omega arith, markable-goes-on _ _ _ (c .before .before .before .loop .a) _ (c .before .before .loop-test .taken) (c .before .is-markable .ensures) (c .if1 .left) (c .before .before .before .loop .inv .1))
+loop-again c = (
+  omega arith,
+  markable-goes-on _ _ _ (c .before .before .before .loop .a) _
+      (c .before .before .loop-test .taken) (c .before .is-markable .ensures) (c .if1 .left) (c .before .before .before .loop .inv .1),
+)
 
 returns-2 : tie.Need-returns-2 Inv-loop μ-loop
 returns-2 c =

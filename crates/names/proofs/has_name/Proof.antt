@@ -14,7 +14,8 @@ returns c =
 
 returns-2 : tie.Need-returns-2
 returns-2 c =
-    sym (other-length-name (c .before .before .args .sheet .now) (c .before .before .args .e) (c .before .before .args .start) (c .before .before .args .len) (c .if1 .left))
+    let entry = c .before .before in
+    sym (other-length-name (entry .args .sheet .now) (entry .args .e) (entry .args .start) (entry .args .len) (c .if1 .left))
 
 pub has-name-spec : {M : Type 1} → statement M
 has-name-spec = tie.close (tie.spec same-name-requires returns returns-2)

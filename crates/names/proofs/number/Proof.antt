@@ -1,11 +1,11 @@
 use borrow.Author.Needs.{needs}
-use mathlib.Core.Path.{_≡_, refl}
+use mathlib.Core.Path.{_≡_}
 use Prim.Native.Nat.{_+_, _-_, _≤_}
 use native.Mathlib.Nat.{zero-add}
 use native.Mathlib.Omega.{arith}
 use lib.ListN.{take, drop}
 use Rattle.names.specs.Names.{bytesAt, numberIn}
-use Rattle.names.proofs.Steps.{found-here, search-on, found-none, number-in-front}
+use Rattle.names.proofs.Steps.{found-here, search-on, found-none}
 use Rattle.names.proofs.number.Statement.{statement}
 use Rattle.names.proofs.number.Tie as tie
 
@@ -29,7 +29,12 @@ has-name-requires c κs = search needs
 
 returns : tie.Need-returns Inv-loop μ-loop
 returns c =
-    (found-here (c .before .before .before .before .before .before .before .args .sheet .now) (c .before .before .before .before .before .before .before .args .names .now) _ (c .before .before .before .before .before .before .before .args .count) (c .before .before .before .before .loop .i) (c .before .before .before .before .before .before .before .pre .0) (c .before .before .before .before .loop .inv .1) _ (c .before .before .entry .ensures .0) _ (c .before .before .before .loop-test .taken) (c .before .has-name .ensures) (c .if1 .taken), omega arith)
+    let entry = c .before .before .before .before .before .before .before in
+    let at-loop = c .before .before .before .before .loop in (
+      found-here (entry .args .sheet .now) (entry .args .names .now) _ (entry .args .count) (at-loop .i) (entry .pre .0) (at-loop .inv .1) _
+          (c .before .before .entry .ensures .0) _ (c .before .before .before .loop-test .taken) (c .before .has-name .ensures) (c .if1 .taken),
+      omega arith,
+    )
 
 add-i : tie.Need-add-i Inv-loop μ-loop
 add-i c = search needs
@@ -39,11 +44,20 @@ loop-less c = search needs
 
 loop-again : tie.Need-loop-again Inv-loop μ-loop
 loop-again c =
-    (omega arith, search-on (c .before .before .before .before .before .before .before .args .sheet .now) (c .before .before .before .before .before .before .before .args .names .now) _ (c .before .before .before .before .before .before .before .args .count) (c .before .before .before .before .loop .i) (c .before .before .before .before .before .before .before .pre .0) (c .before .before .before .before .loop .inv .1) _ (c .before .before .entry .ensures .0) _ (c .before .before .before .loop-test .taken) (c .before .has-name .ensures) (c .if1 .left))
+    let entry = c .before .before .before .before .before .before .before in
+    let at-loop = c .before .before .before .before .loop in (
+      omega arith,
+      search-on (entry .args .sheet .now) (entry .args .names .now) _ (entry .args .count) (at-loop .i) (entry .pre .0) (at-loop .inv .1) _
+          (c .before .before .entry .ensures .0) _ (c .before .before .before .loop-test .taken) (c .before .has-name .ensures) (c .if1 .left),
+    )
 
 returns-2 : tie.Need-returns-2 Inv-loop μ-loop
 returns-2 c =
-    (found-none (c .before .before .before .before .args .sheet .now) (c .before .before .before .before .args .names .now) _ (c .before .before .before .before .args .count) (c .before .loop .i) (c .before .before .before .before .pre .0) (c .before .loop .inv .0) (c .loop-test .left) (c .before .loop .inv .1), omega arith)
+    let entry = c .before .before .before .before in (
+      found-none (entry .args .sheet .now) (entry .args .names .now) _
+          (entry .args .count) (c .before .loop .i) (entry .pre .0) (c .before .loop .inv .0) (c .loop-test .left) (c .before .loop .inv .1),
+      omega arith,
+    )
 
 pub number-spec : {M : Type 1} → statement M
 number-spec =

@@ -29,8 +29,10 @@ add-result c = search needs
 
 returns : tie.Need-returns
 unfolding pairAt
-returns c =
-    (ap₂ (λ (x y : ℕ). x + 256 * y) (c .before .before .wide .ensures .0) (c .wide2 .ensures .0), omega (arith, c .before .before .wide .ensures .1, c .wide2 .ensures .1))
+returns c = (
+  ap₂ (λ (x y : ℕ). x + 256 * y) (c .before .before .wide .ensures .0) (c .wide2 .ensures .0),
+  omega (arith, c .before .before .wide .ensures .1, c .wide2 .ensures .1),
+)
 
 pub pair-spec : {M : Type 1} → statement M
 pair-spec =

@@ -33,7 +33,10 @@ byte-requires-2 c κs = search needs
 
 returns : tie.Need-returns Inv-loop μ-loop
 returns c =
-    same-stops (c .before .before .before .before .before .before .args .sheet .now) (c .before .before .before .before .before .before .args .a) (c .before .before .before .before .before .before .args .b) (c .before .before .before .before .before .before .args .n) (c .before .before .before .before .loop .i) _ (c .before .before .before .before .loop .inv .1) (c .before .before .before .loop-test .taken) (λ e. c .if1 .taken (c .before .before .byte .ensures ∙ e ∙ sym (c .before .byte2 .ensures)))
+    let entry = c .before .before .before .before .before .before in
+    let at-loop = c .before .before .before .before .loop in
+    same-stops (entry .args .sheet .now) (entry .args .a) (entry .args .b) (entry .args .n) (at-loop .i) _ (at-loop .inv .1)
+    (c .before .before .before .loop-test .taken) (λ e. c .if1 .taken (c .before .before .byte .ensures ∙ e ∙ sym (c .before .byte2 .ensures)))
 
 add-i : tie.Need-add-i Inv-loop μ-loop
 add-i c = search needs
@@ -43,11 +46,18 @@ loop-less c = search needs
 
 loop-again : tie.Need-loop-again Inv-loop μ-loop
 loop-again c =
-    (omega arith, same-on (c .before .before .before .before .before .before .args .sheet .now) (c .before .before .before .before .before .before .args .a) (c .before .before .before .before .before .before .args .b) (c .before .before .before .before .before .before .args .n) (c .before .before .before .before .loop .i) _ (c .before .before .before .before .loop .inv .1) (c .before .before .before .loop-test .taken) (sym (c .before .before .byte .ensures) ∙ c .if1 .left ∙ c .before .byte2 .ensures))
+    let entry = c .before .before .before .before .before .before in
+    let at-loop = c .before .before .before .before .loop in (
+      omega arith,
+      same-on (entry .args .sheet .now) (entry .args .a) (entry .args .b) (entry .args .n) (at-loop .i) _
+          (at-loop .inv .1) (c .before .before .before .loop-test .taken) (sym (c .before .before .byte .ensures) ∙ c .if1 .left ∙ c .before .byte2 .ensures),
+    )
 
 returns-2 : tie.Need-returns-2 Inv-loop μ-loop
 returns-2 c =
-    same-ended (c .before .before .before .args .sheet .now) (c .before .before .before .args .a) (c .before .before .before .args .b) (c .before .before .before .args .n) (c .before .loop .i) _ (c .before .loop .inv .1) (c .loop-test .left)
+    let entry = c .before .before .before in
+    same-ended (entry .args .sheet .now) (entry .args .a) (entry .args .b) (entry .args .n) (c .before .loop .i) _
+    (c .before .loop .inv .1) (c .loop-test .left)
 
 pub same-bytes-spec : {M : Type 1} → statement M
 same-bytes-spec =

@@ -35,7 +35,12 @@ eight-requires-2 c κs = search needs
 
 returns : tie.Need-returns Inv-loop μ-loop
 returns c =
-    eights-differ (c .before .before .before .before .before .before .args .sheet .now) (λ j. omega (arith, c .before .before .before .before .before .shared-slice-known .given j)) (c .before .before .before .before .before .before .args .a) (c .before .before .before .before .before .before .args .b) (c .before .before .before .before .before .before .args .n) (c .before .before .before .before .loop .i) (c .before .before .eight .result) (c .before .eight2 .result) (omega arith) (c .before .before .eight .ensures) (c .before .eight2 .ensures) (c .if1 .taken)
+    let entry = c .before .before .before .before .before .before in
+    let at-shared-slice-known = c .before .before .before .before .before .shared-slice-known in
+    let at-loop = c .before .before .before .before .loop in
+    eights-differ (entry .args .sheet .now) (λ j. omega (arith, at-shared-slice-known .given j)) (entry .args .a)
+    (entry .args .b) (entry .args .n) (at-loop .i) (c .before .before .eight .result) (c .before .eight2 .result)
+    (omega arith) (c .before .before .eight .ensures) (c .before .eight2 .ensures) (c .if1 .taken)
 
 add-i : tie.Need-add-i Inv-loop μ-loop
 add-i c = search needs
@@ -45,7 +50,15 @@ loop-less c = search needs
 
 loop-again : tie.Need-loop-again Inv-loop μ-loop
 loop-again c =
-    (omega arith, c .before .before .before .before .loop .inv .1, eight-more (c .before .before .before .before .before .before .args .sheet .now) (λ j. omega (arith, c .before .before .before .before .before .shared-slice-known .given j)) (c .before .before .before .before .before .before .args .a) (c .before .before .before .before .before .before .args .b) (c .before .before .before .before .before .before .args .n) (c .before .before .before .before .loop .i) (c .before .before .eight .result) (c .before .eight2 .result) (c .before .before .eight .ensures) (c .before .eight2 .ensures) (c .if1 .left) (c .before .before .before .before .loop .inv .2))
+    let entry = c .before .before .before .before .before .before in
+    let at-shared-slice-known = c .before .before .before .before .before .shared-slice-known in
+    let at-loop = c .before .before .before .before .loop in (
+      omega arith,
+      at-loop .inv .1,
+      eight-more (entry .args .sheet .now) (λ j. omega (arith, at-shared-slice-known .given j))
+          (entry .args .a) (entry .args .b) (entry .args .n) (at-loop .i) (c .before .before .eight .result)
+          (c .before .eight2 .result) (c .before .before .eight .ensures) (c .before .eight2 .ensures) (c .if1 .left) (at-loop .inv .2),
+    )
 
 add-eight-3 : tie.Need-add-eight-3 Inv-loop μ-loop
 add-eight-3 c = search needs
@@ -61,7 +74,11 @@ eight-requires-4 c κs = search needs
 
 returns-2 : tie.Need-returns-2 Inv-loop μ-loop
 returns-2 c =
-    eights-decide (c .before .before .before .before .before .args .sheet .now) (λ j. omega (arith, c .before .before .before .before .shared-slice-known .given j)) (c .before .before .before .before .before .args .a) (c .before .before .before .before .before .args .b) (c .before .before .before .before .before .args .n) (c .before .before .before .loop .i) (c .before .eight3 .result) (c .eight4 .result) (c .before .before .before .before .before .pre .0) (omega arith) (c .before .eight3 .ensures) (c .eight4 .ensures) (c .before .before .before .loop .inv .2)
+    let entry = c .before .before .before .before .before in
+    let at-shared-slice-known = c .before .before .before .before .shared-slice-known in
+    eights-decide (entry .args .sheet .now) (λ j. omega (arith, at-shared-slice-known .given j)) (entry .args .a)
+    (entry .args .b) (entry .args .n) (c .before .before .before .loop .i) (c .before .eight3 .result) (c .eight4 .result)
+    (entry .pre .0) (omega arith) (c .before .eight3 .ensures) (c .eight4 .ensures) (c .before .before .before .loop .inv .2)
 
 pub same-eights-spec : {M : Type 1} → statement M
 same-eights-spec =

@@ -15,7 +15,10 @@ four-requires-2 c κs = search needs
 
 returns : tie.Need-returns
 returns c =
-    fours-differ (c .before .before .before .before .args .sheet .now) (λ i. omega (arith, c .before .before .before .shared-slice-known .given i)) (c .before .before .before .before .args .a) (c .before .before .before .before .args .b) (c .before .before .before .before .args .n) (c .before .before .four .result) (c .before .four2 .result) (c .before .before .before .before .pre .0) (c .before .before .four .ensures .0) (c .before .four2 .ensures .0) (c .if1 .taken)
+    let entry = c .before .before .before .before in
+    fours-differ (entry .args .sheet .now) (λ i. omega (arith, c .before .before .before .shared-slice-known .given i))
+    (entry .args .a) (entry .args .b) (entry .args .n) (c .before .before .four .result) (c .before .four2 .result)
+    (entry .pre .0) (c .before .before .four .ensures .0) (c .before .four2 .ensures .0) (c .if1 .taken)
 
 add-four : tie.Need-add-four
 add-four c = search needs
@@ -31,7 +34,13 @@ four-requires-4 c κs = search needs
 
 returns-2 : tie.Need-returns-2
 returns-2 c =
-    fours-decide (c .before .before .before .before .before .before .args .sheet .now) (λ i. omega (arith, c .before .before .before .before .before .shared-slice-known .given i)) (c .before .before .before .before .before .before .args .a) (c .before .before .before .before .before .before .args .b) (c .before .before .before .before .before .before .args .n) (c .before .before .before .before .four .result) (c .before .before .before .four2 .result) (c .before .four3 .result) (c .four4 .result) (c .before .before .before .before .before .before .pre .0) (c .before .before .before .before .before .before .pre .1 .0) (c .before .before .before .before .four .ensures .0) (c .before .before .before .four2 .ensures .0) (c .before .before .if1 .left) (c .before .four3 .ensures .0) (c .four4 .ensures .0)
+    let entry = c .before .before .before .before .before .before in
+    let at-shared-slice-known = c .before .before .before .before .before .shared-slice-known in
+    let at-four = c .before .before .before .before .four in
+    fours-decide (entry .args .sheet .now) (λ i. omega (arith, at-shared-slice-known .given i)) (entry .args .a)
+    (entry .args .b) (entry .args .n) (at-four .result) (c .before .before .before .four2 .result)
+    (c .before .four3 .result) (c .four4 .result) (entry .pre .0) (entry .pre .1 .0) (at-four .ensures .0)
+    (c .before .before .before .four2 .ensures .0) (c .before .before .if1 .left) (c .before .four3 .ensures .0) (c .four4 .ensures .0)
 
 pub same-fours-spec : {M : Type 1} → statement M
 same-fours-spec =

@@ -1,16 +1,8 @@
 use borrow.Author.Needs.{needs}
 use mathlib.Core.Path.{sym, _∙_}
 use Rattle.picks.specs.Entries.{PickAllows}
-use borrow.Author.Needs.{needs}
 use Rattle.picks.proofs.pick_by_value.Statement.{statement}
 use Rattle.picks.proofs.pick_by_value.Tie as tie
-use Rattle.picks.proofs.pick_by_value.Reads as reads
-use Rattle.picks.proofs.pick_by_value.Lts as lts
-use Rattle.picks.proofs.mark_atom.Reads as mark-atom-reads
-use Rattle.picks.proofs.pick_fault.Reads as pick-fault-reads
-
-slice-aggregate-pick-fault : tie.Need-slice-aggregate-pick-fault
-slice-aggregate-pick-fault c = search needs
 
 pick-fault-requires : tie.Need-pick-fault-requires
 pick-fault-requires c κs = search needs
@@ -36,7 +28,6 @@ pub pick-by-value-spec : {M : Type 1} → statement M
 pick-by-value-spec =
     tie.close
     (tie.spec
-    slice-aggregate-pick-fault
     pick-fault-requires
     enum-known-r
     returns

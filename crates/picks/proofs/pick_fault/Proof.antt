@@ -1,14 +1,7 @@
 use borrow.Author.Needs.{needs}
-use Rattle.marking.specs.Faults.{pickFault}
-use borrow.Author.Needs.{needs}
+use Rattle.picks.specs.Faults.{pickFault}
 use Rattle.picks.proofs.pick_fault.Statement.{statement}
 use Rattle.picks.proofs.pick_fault.Tie as tie
-use Rattle.picks.proofs.pick_fault.Reads as reads
-use Rattle.picks.proofs.pick_fault.Lts as lts
-use Rattle.marking.proofs.atom_fault.Reads as atom-fault-reads
-use Rattle.marking.proofs.record_fault.Reads as record-fault-reads
-use Rattle.words.proofs.check.Reads as check-reads
-use Rattle.words.proofs.first_of.Reads as first-of-reads
 
 record-fault-requires : tie.Need-record-fault-requires
 record-fault-requires c κs = search needs
@@ -28,7 +21,14 @@ first-of-requires-2 c κs = search needs
 returns : tie.Need-returns
 unfolding pickFault
 returns c =
-    rw (c .first-of2 .ensures, c .before .first-of .ensures, c .before .before .before .before .record-fault .ensures, c .before .before .before .check .ensures, c .before .before .atom-fault .ensures)
+    let at-record-fault = c .before .before .before .before .record-fault in
+    rw (
+      c .first-of2 .ensures,
+      c .before .first-of .ensures,
+      at-record-fault .ensures,
+      c .before .before .before .check .ensures,
+      c .before .before .atom-fault .ensures,
+    )
 
 pub pick-fault-spec : {M : Type 1} → statement M
 pick-fault-spec =

@@ -1,16 +1,8 @@
 use borrow.Author.Needs.{needs}
 use mathlib.Core.Path.{sym, _∙_}
 use Rattle.picks.specs.Entries.{ReportAllows}
-use borrow.Author.Needs.{needs}
 use Rattle.picks.proofs.report.Statement.{statement}
 use Rattle.picks.proofs.report.Tie as tie
-use Rattle.picks.proofs.report.Reads as reads
-use Rattle.picks.proofs.report.Lts as lts
-use Rattle.picks.proofs.report_fault.Reads as report-fault-reads
-use Rattle.picks.proofs.report_settled.Reads as report-settled-reads
-
-slice-aggregate-report-fault : tie.Need-slice-aggregate-report-fault
-slice-aggregate-report-fault c = search needs
 
 report-fault-requires : tie.Need-report-fault-requires
 report-fault-requires c κs = search needs
@@ -39,7 +31,6 @@ pub report-spec : {M : Type 1} → statement M
 report-spec =
     tie.close
     (tie.spec
-    slice-aggregate-report-fault
     report-fault-requires
     enum-known-r
     returns

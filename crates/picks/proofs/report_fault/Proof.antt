@@ -1,15 +1,7 @@
 use borrow.Author.Needs.{needs}
-use Rattle.marking.specs.Faults.{reportFault}
-use borrow.Author.Needs.{needs}
+use Rattle.picks.specs.Faults.{reportFault}
 use Rattle.picks.proofs.report_fault.Statement.{statement}
 use Rattle.picks.proofs.report_fault.Tie as tie
-use Rattle.picks.proofs.report_fault.Reads as reads
-use Rattle.picks.proofs.report_fault.Lts as lts
-use Rattle.marking.proofs.record_fault.Reads as record-fault-reads
-use Rattle.marking.proofs.room_too_small.Reads as room-too-small-reads
-use Rattle.marking.proofs.table_too_long.Reads as table-too-long-reads
-use Rattle.words.proofs.check.Reads as check-reads
-use Rattle.words.proofs.first_of.Reads as first-of-reads
 
 record-fault-requires : tie.Need-record-fault-requires
 record-fault-requires c κs = search needs
@@ -35,7 +27,18 @@ first-of-requires-3 c κs = search needs
 returns : tie.Need-returns
 unfolding reportFault
 returns c =
-    rw (c .first-of3 .ensures, c .before .first-of2 .ensures, c .before .before .first-of .ensures, c .before .before .before .before .before .before .record-fault .ensures, c .before .before .before .before .before .table-too-long .ensures, c .before .before .before .before .room-too-small .ensures, c .before .before .before .check .ensures)
+    let at-record-fault = c .before .before .before .before .before .before .record-fault in
+    let at-table-too-long = c .before .before .before .before .before .table-too-long in
+    let at-room-too-small = c .before .before .before .before .room-too-small in
+    rw (
+      c .first-of3 .ensures,
+      c .before .first-of2 .ensures,
+      c .before .before .first-of .ensures,
+      at-record-fault .ensures,
+      at-table-too-long .ensures,
+      at-room-too-small .ensures,
+      c .before .before .before .check .ensures,
+    )
 
 pub report-fault-spec : {M : Type 1} → statement M
 report-fault-spec =

@@ -1,21 +1,12 @@
 use borrow.Author.Needs.{needs}
 use mathlib.Core.Path.{sym, _∙_}
-use native.Mathlib.Omega.{arith}
-use Rattle.bits.specs.Sets.{member}
-use Rattle.marking.proofs.Accepted.{settled-accepted, record-good}
+use Rattle.picks.proofs.Accepted.{settled-accepted}
+use Rattle.records.proofs.Laws.{record-good}
 use Rattle.words.proofs.Laws.{accepted-heads}
 use Rattle.least.proofs.Marked.{accepted-records}
 use Rattle.picks.specs.Entries.{SettledAllows}
-use borrow.Author.Needs.{needs}
 use Rattle.picks.proofs.settled.Statement.{statement}
 use Rattle.picks.proofs.settled.Tie as tie
-use Rattle.picks.proofs.settled.Reads as reads
-use Rattle.picks.proofs.settled.Lts as lts
-use Rattle.marking.proofs.can_go_on.Reads as can-go-on-reads
-use Rattle.picks.proofs.settled_fault.Reads as settled-fault-reads
-
-slice-aggregate-settled-fault : tie.Need-slice-aggregate-settled-fault
-slice-aggregate-settled-fault c = search needs
 
 settled-fault-requires : tie.Need-settled-fault-requires
 settled-fault-requires c κs = search needs
@@ -35,22 +26,32 @@ slice-aggregate-can-go-on c = search needs
 
 can-go-on-requires : tie.Need-can-go-on-requires
 can-go-on-requires c κs =
-    let p = settled-accepted (c .before .before .before .before .before .before .before .args .record .n) (member (c .before .before .before .before .before .before .before .args .record .marks)) (c .before .before .before .before .before .before .before .args .table .now) (sym (c .before .before .before .settled-fault .ensures) ∙ c .before .enum-told .given .1) in
-    (record-good _ _ (p .0) .at-most-512, search needs, accepted-records (c .before .before .before .before .before .before .before .args .record .n) (c .before .before .before .before .before .before .before .args .table .now) (p .1), accepted-heads (c .before .before .before .before .before .before .before .args .record .n) (c .before .before .before .before .before .before .before .args .table .now) (p .1))
+    let entry = c .before .before .before .before .before .before in
+    let at-settled-fault = c .before .before .before .before .settled-fault in
+    let table = entry .args .table .now in
+    let p = settled-accepted (entry .args .record) table (sym (at-settled-fault .ensures) ∙ c .before .before .enum-told .given .1) in (
+      record-good _ (p .0) .at-most-512,
+      search needs,
+      accepted-records (entry .args .record .n) table (p .1),
+      accepted-heads (entry .args .record .n) table (p .1),
+    )
 
 returns-2 : tie.Need-returns-2
 returns-2 c =
-    SettledAllows.answers-no (sym (c .before .before .before .before .before .settled-fault .ensures) ∙ c .before .before .before .enum-told .given .1) (c .before .can-go-on .ensures .when-true (c .if1 .taken))
+    let at-settled-fault = c .before .before .before .before .before .before .settled-fault in
+    let at-enum-told = c .before .before .before .before .enum-told in
+    SettledAllows.answers-no (sym (at-settled-fault .ensures) ∙ at-enum-told .given .1) (c .before .can-go-on .ensures .when-true (c .if1 .taken))
 
 returns-3 : tie.Need-returns-3
 returns-3 c =
-    SettledAllows.answers-yes (sym (c .before .before .before .before .before .settled-fault .ensures) ∙ c .before .before .before .enum-told .given .1) (c .before .can-go-on .ensures .when-false (c .if1 .left))
+    let at-settled-fault = c .before .before .before .before .before .before .settled-fault in
+    let at-enum-told = c .before .before .before .before .enum-told in
+    SettledAllows.answers-yes (sym (at-settled-fault .ensures) ∙ at-enum-told .given .1) (c .before .can-go-on .ensures .when-false (c .if1 .left))
 
 pub settled-spec : {M : Type 1} → statement M
 settled-spec =
     tie.close
     (tie.spec
-    slice-aggregate-settled-fault
     settled-fault-requires
     enum-known-r
     returns

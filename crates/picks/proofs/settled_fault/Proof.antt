@@ -1,13 +1,7 @@
 use borrow.Author.Needs.{needs}
-use Rattle.marking.specs.Faults.{settledFault}
-use borrow.Author.Needs.{needs}
+use Rattle.picks.specs.Faults.{settledFault}
 use Rattle.picks.proofs.settled_fault.Statement.{statement}
 use Rattle.picks.proofs.settled_fault.Tie as tie
-use Rattle.picks.proofs.settled_fault.Reads as reads
-use Rattle.picks.proofs.settled_fault.Lts as lts
-use Rattle.marking.proofs.record_fault.Reads as record-fault-reads
-use Rattle.words.proofs.check.Reads as check-reads
-use Rattle.words.proofs.first_of.Reads as first-of-reads
 
 record-fault-requires : tie.Need-record-fault-requires
 record-fault-requires c κs = search needs

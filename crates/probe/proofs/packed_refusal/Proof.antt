@@ -1,5 +1,5 @@
 use borrow.Author.Needs.{needs}
-use Rattle.probe.specs.Packed.{packed}
+use Rattle.probe.specs.Packed.{packedWrapping}
 use Rattle.probe.proofs.packed_refusal.Statement.{statement}
 use Rattle.probe.proofs.packed_refusal.Tie as tie
 
@@ -7,7 +7,7 @@ wrapping-add-u64-requires : tie.Need-wrapping-add-u64-requires
 wrapping-add-u64-requires c κs = search needs
 
 returns : tie.Need-returns
-unfolding packed
+unfolding packedWrapping
 returns c =
     search needs
 

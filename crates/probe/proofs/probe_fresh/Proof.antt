@@ -6,12 +6,12 @@ use Rattle.probe.proofs.probe_fresh.Tie as tie
 fresh-requires : tie.Need-fresh-requires
 fresh-requires c κs = search needs
 
-fresh-number-requires : tie.Need-fresh-number-requires
-fresh-number-requires c κs = search needs
+checked-number-requires : tie.Need-checked-number-requires
+checked-number-requires c κs = search needs
 
 returns : tie.Need-returns
 returns c =
-    rw (c .fresh-number .ensures) (FreshPacked.answers (c .before .before .before .fresh .ensures))
+    rw (c .checked-number .ensures) (FreshPacked.answers (c .before .before .before .fresh .ensures))
 
 pub probe-fresh-spec : {M : Type 1} → statement M
-probe-fresh-spec = tie.close (tie.spec fresh-requires fresh-number-requires returns)
+probe-fresh-spec = tie.close (tie.spec fresh-requires checked-number-requires returns)

@@ -6,12 +6,12 @@ use Rattle.probe.proofs.probe_settled.Tie as tie
 settled-requires : tie.Need-settled-requires
 settled-requires c κs = search needs
 
-settled-number-requires : tie.Need-settled-number-requires
-settled-number-requires c κs = search needs
+decided-number-requires : tie.Need-decided-number-requires
+decided-number-requires c κs = search needs
 
 returns : tie.Need-returns
 returns c =
-    rw (c .settled-number .ensures) (SettledPacked.answers (c .before .settled .ensures))
+    rw (c .decided-number .ensures) (SettledPacked.answers (c .before .settled .ensures))
 
 pub probe-settled-spec : {M : Type 1} → statement M
-probe-settled-spec = tie.close (tie.spec settled-requires settled-number-requires returns)
+probe-settled-spec = tie.close (tie.spec settled-requires decided-number-requires returns)

@@ -26,8 +26,9 @@ same-length-3 c = search needs
 
 returns : tie.Need-returns
 returns c =
+    let at-read-sheet = c .before .before .before .before .before .before .before .before .before .read-sheet in
     rw (c .sheet-number .ensures, c .before .sheet-words .ensures, c .before .before .sheet-atoms .ensures)
-    (SheetPacked.answers (c .before .before .before .before .before .before .before .before .before .read-sheet .ensures))
+    (SheetPacked.answers (at-read-sheet .ensures))
 
 pub probe-sheet-spec : {M : Type 1} → statement M
 probe-sheet-spec =

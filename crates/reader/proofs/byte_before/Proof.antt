@@ -1,5 +1,5 @@
 use borrow.Author.Needs.{needs}
-use mathlib.Core.Path.{_∙_, ap, refl}
+use mathlib.Core.Path.{_∙_}
 use Rattle.reader.specs.Sheet.{byteBefore}
 use Rattle.reader.proofs.Runs.{byteBefore-some}
 use Rattle.reader.proofs.byte_before.Statement.{statement}

@@ -24,12 +24,26 @@ returns-2 c =
 returns-3 : tie.Need-returns-3
 unfolding continuesName
 returns-3 c =
-    simp (sym (c .before .before .before .before .starts-name .ensures), c .before .before .before .if1 .left, sym (c .before .before .is-digit .ensures), c .before .if2 .left, eq-eqb _ _ (c .if3 .taken))
+    let at-starts-name = c .before .before .before .before .starts-name in
+    simp (
+      sym (at-starts-name .ensures),
+      c .before .before .before .if1 .left,
+      sym (c .before .before .is-digit .ensures),
+      c .before .if2 .left,
+      eq-eqb _ _ (c .if3 .taken),
+    )
 
 returns-4 : tie.Need-returns-4
 unfolding continuesName
 returns-4 c =
-    simp (sym (c .before .before .before .before .starts-name .ensures), c .before .before .before .if1 .left, sym (c .before .before .is-digit .ensures), c .before .if2 .left, ne-eqb _ _ (c .if3 .left))
+    let at-starts-name = c .before .before .before .before .starts-name in
+    simp (
+      sym (at-starts-name .ensures),
+      c .before .before .before .if1 .left,
+      sym (c .before .before .is-digit .ensures),
+      c .before .if2 .left,
+      ne-eqb _ _ (c .if3 .left),
+    )
 
 pub continues-name-spec : {M : Type 1} → statement M
 continues-name-spec =

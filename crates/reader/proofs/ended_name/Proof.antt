@@ -1,8 +1,7 @@
 use borrow.Author.Needs.{needs}
-use mathlib.Core.Path.{sym, _∙_, ap}
+use mathlib.Core.Path.{sym}
 use borrow.Author.Tests.{lt-leb, le-leb}
-use Rattle.reader.specs.Sheet.{mayFollow}
-use Rattle.reader.specs.Readings.{endedName, asking}
+use Rattle.reader.specs.Readings.{endedName}
 use Rattle.reader.proofs.ended_name.Statement.{statement}
 use Rattle.reader.proofs.ended_name.Tie as tie
 
@@ -40,7 +39,14 @@ returns-2 c =
 returns-3 : tie.Need-returns-3
 unfolding endedName
 returns-3 c =
-    simp (le-leb _ _ (c .before .before .before .before .if1 .left), sym (c .before .before .before .byte .ensures), sym (c .before .before .may-follow .ensures), c .before .if2 .left, c .refused2 .ensures)
+    let at-if1 = c .before .before .before .before .if1 in
+    simp (
+      le-leb _ _ (at-if1 .left),
+      sym (c .before .before .before .byte .ensures),
+      sym (c .before .before .may-follow .ensures),
+      c .before .if2 .left,
+      c .refused2 .ensures,
+    )
 
 pub ended-name-spec : {M : Type 1} → statement M
 ended-name-spec =

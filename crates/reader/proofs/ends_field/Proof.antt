@@ -1,4 +1,3 @@
-use borrow.Author.Needs.{needs}
 use borrow.Author.Tests.{eq-eqb, ne-eqb}
 use Rattle.reader.specs.Sheet.{mayFollow}
 use Rattle.reader.proofs.ends_field.Statement.{statement}

@@ -1,4 +1,3 @@
-use borrow.Author.Needs.{needs}
 use borrow.Author.Tests.{le-leb, lt-leb}
 use Rattle.reader.specs.Sheet.{isDigit}
 use Rattle.reader.proofs.is_digit.Statement.{statement}

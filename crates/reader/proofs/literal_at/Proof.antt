@@ -1,5 +1,5 @@
 use borrow.Author.Needs.{needs}
-use mathlib.Core.Path.{refl, sym, _∙_, ap}
+use mathlib.Core.Path.{refl, sym, _∙_}
 use native.Mathlib.Omega.{arith}
 use borrow.Author.Tests.{eq-eqb, ne-eqb}
 use Rattle.reader.specs.Sheet.{isMinus}
@@ -13,11 +13,19 @@ byte-requires c κs = search needs
 
 add-name-at : tie.Need-add-name-at
 add-name-at c =
-    omega (arith, inside-by isMinus refl (c .before .before .before .args .sheet .now) (c .before .before .before .args .place) (eq-eqb _ _ (sym (c .before .byte .ensures) ∙ c .if1 .taken)))
+    omega (
+      arith,
+      inside-by isMinus refl
+          (c .before .before .before .args .sheet .now) (c .before .before .before .args .place) (eq-eqb _ _ (sym (c .before .byte .ensures) ∙ c .if1 .taken)),
+    )
 
 name-at-requires : tie.Need-name-at-requires
 name-at-requires c κs =
-    omega (arith, inside-by isMinus refl (c .before .before .before .args .sheet .now) (c .before .before .before .args .place) (eq-eqb _ _ (sym (c .before .byte .ensures) ∙ c .if1 .taken)))
+    omega (
+      arith,
+      inside-by isMinus refl
+          (c .before .before .before .args .sheet .now) (c .before .before .before .args .place) (eq-eqb _ _ (sym (c .before .byte .ensures) ∙ c .if1 .taken)),
+    )
 
 name-at-requires-2 : tie.Need-name-at-requires-2
 name-at-requires-2 c κs = search needs

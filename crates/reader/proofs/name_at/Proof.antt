@@ -1,6 +1,6 @@
 use borrow.Author.Needs.{needs}
-use mathlib.Core.Path.{sym, _∙_, ap}
-use Rattle.reader.specs.Readings.{nameAt, asking}
+use mathlib.Core.Path.{sym}
+use Rattle.reader.specs.Readings.{nameAt}
 use Rattle.reader.proofs.name_at.Statement.{statement}
 use Rattle.reader.proofs.name_at.Tie as tie
 
@@ -22,7 +22,14 @@ refused-requires c κs = search needs
 returns : tie.Need-returns
 unfolding nameAt
 returns c =
-    simp (sym (c .before .before .before .before .byte .ensures), sym (c .before .before .before .starts-name .ensures), c .before .before .if1 .taken, sym (c .before .name-run .ensures .0), c .ended-name .ensures)
+    let at-byte = c .before .before .before .before .byte in
+    simp (
+      sym (at-byte .ensures),
+      sym (c .before .before .before .starts-name .ensures),
+      c .before .before .if1 .taken,
+      sym (c .before .name-run .ensures .0),
+      c .ended-name .ensures,
+    )
 
 returns-2 : tie.Need-returns-2
 unfolding nameAt

@@ -34,16 +34,25 @@ add-n c = search needs
 
 loop-less : tie.Need-loop-less Inv-loop μ-loop
 loop-less c =
-    let more = run-more (c .before .before .before .before .before .args .sheet .now) (c .before .before .before .before .before .args .q) (c .before .before .before .loop .n) _ (c .before .before .before .loop .inv .1) (c .before .continues-name .ensures ∙ ap continuesName (c .before .before .byte .ensures)) (c .if1 .taken) in
+    let entry = c .before .before .before .before .before in
+    let more = run-more (entry .args .sheet .now) (entry .args .q) (c .before .before .before .loop .n) _
+    (c .before .before .before .loop .inv .1) (c .before .continues-name .ensures ∙ ap continuesName (c .before .before .byte .ensures)) (c .if1 .taken) in
     omega (arith, more .0)
 
 loop-again : tie.Need-loop-again Inv-loop μ-loop
 loop-again c =
-    run-more (c .before .before .before .before .before .args .sheet .now) (c .before .before .before .before .before .args .q) (c .before .before .before .loop .n) _ (c .before .before .before .loop .inv .1) (c .before .continues-name .ensures ∙ ap continuesName (c .before .before .byte .ensures)) (c .if1 .taken)
+    let entry = c .before .before .before .before .before in
+    run-more (entry .args .sheet .now) (entry .args .q) (c .before .before .before .loop .n) _
+    (c .before .before .before .loop .inv .1) (c .before .continues-name .ensures ∙ ap continuesName (c .before .before .byte .ensures)) (c .if1 .taken)
 
 returns : tie.Need-returns Inv-loop μ-loop
 returns c =
-    (run-ended (c .before .before .before .before .before .args .sheet .now) (c .before .before .before .before .before .args .q) (c .before .before .before .loop .n) _ (c .before .before .before .loop .inv .1) (c .before .continues-name .ensures ∙ ap continuesName (c .before .before .byte .ensures)) (c .if1 .left), c .before .before .before .loop .inv .0)
+    let entry = c .before .before .before .before .before in
+    let at-loop = c .before .before .before .loop in (
+      run-ended (entry .args .sheet .now) (entry .args .q) (at-loop .n) _
+          (at-loop .inv .1) (c .before .continues-name .ensures ∙ ap continuesName (c .before .before .byte .ensures)) (c .if1 .left),
+      at-loop .inv .0,
+    )
 
 pub name-run-spec : {M : Type 1} → statement M
 name-run-spec =

@@ -16,12 +16,16 @@ enum-known-reading c = search needs
 add-result : tie.Need-add-result
 unfolding placeAfter
 add-result c =
-    let h = rw (c .before .before .reading .given .1) at (c .before .before .before .before .pre) in omega (arith, h)
+    let entry = c .before .before .before .before in
+    let h = rw (c .before .before .reading .given .1) at (entry .pre) in
+    omega (arith, h)
 
 add-result-2 : tie.Need-add-result-2
 unfolding placeAfter
 add-result-2 c =
-    let h = rw (c .before .before .reading .given .1) at (c .before .before .before .before .pre) in omega (arith, h)
+    let entry = c .before .before .before .before in
+    let h = rw (c .before .before .reading .given .1) at (entry .pre) in
+    omega (arith, h)
 
 returns : tie.Need-returns
 unfolding placeAfter

@@ -1,5 +1,4 @@
 use borrow.Author.Needs.{needs}
-use mathlib.Core.Path.{sym}
 use borrow.Author.Tests.{eq-eqb, ne-eqb}
 use Rattle.reader.specs.Readings.{readingAfter}
 use Rattle.reader.proofs.reading_after.Statement.{statement}
@@ -27,7 +26,12 @@ literal-at-requires-2 c κs = search needs
 returns-3 : tie.Need-returns-3
 unfolding readingAfter
 returns-3 c =
-    simp (ne-eqb _ _ (c .before .before .before .if1 .left), ne-eqb _ _ (c .before .before .if2 .left), eq-eqb _ _ (c .before .if3 .taken), c .literal-at2 .ensures)
+    simp (
+      ne-eqb _ _ (c .before .before .before .if1 .left),
+      ne-eqb _ _ (c .before .before .if2 .left),
+      eq-eqb _ _ (c .before .if3 .taken),
+      c .literal-at2 .ensures,
+    )
 
 refused-requires : tie.Need-refused-requires
 refused-requires c κs = search needs

@@ -1,7 +1,7 @@
 use borrow.Author.Needs.{needs}
 use mathlib.Core.Path.{sym}
 use borrow.Author.Tests.{lt-leb, le-leb}
-use Rattle.reader.specs.Readings.{readingAt, asking}
+use Rattle.reader.specs.Readings.{readingAt}
 use Rattle.reader.proofs.reading_at.Statement.{statement}
 use Rattle.reader.proofs.reading_at.Tie as tie
 
@@ -30,7 +30,12 @@ reading-after-requires c κs = search needs
 returns-3 : tie.Need-returns-3
 unfolding readingAt
 returns-3 c =
-    simp (le-leb _ _ (c .before .before .before .if1 .left), le-leb _ _ (c .before .before .if2 .left), sym (c .before .byte-before .ensures), c .reading-after .ensures)
+    simp (
+      le-leb _ _ (c .before .before .before .if1 .left),
+      le-leb _ _ (c .before .before .if2 .left),
+      sym (c .before .byte-before .ensures),
+      c .reading-after .ensures,
+    )
 
 pub reading-at-spec : {M : Type 1} → statement M
 reading-at-spec =

@@ -1,4 +1,3 @@
-use borrow.Author.Needs.{needs}
 use borrow.Author.Tests.{le-leb, lt-leb}
 use Rattle.reader.specs.Sheet.{startsName}
 use Rattle.reader.proofs.starts_name.Statement.{statement}

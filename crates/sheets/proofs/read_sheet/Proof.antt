@@ -1,6 +1,4 @@
 use borrow.Author.Needs.{needs}
-use mathlib.Core.Path.{refl, sym, ap, _∙_}
-use native.Mathlib.Omega.{arith}
 use Rattle.sheets.proofs.Entry.{holds-there, refuses, allows-there}
 use Rattle.sheets.proofs.read_sheet.Statement.{statement}
 use Rattle.sheets.proofs.read_sheet.Tie as tie
@@ -19,7 +17,12 @@ slice-aggregate-value-and-print c = search needs
 
 value-and-print-requires : tie.Need-value-and-print-requires
 value-and-print-requires c κs =
-    holds-there (c .before .before .before .before .before .before .before .before .before .before .before .before .before .before .before .before .before .before .before .before .args .sheet .now) _ _ _ _ _ _ (c .before .before .before .before .before .before .before .before .before .before .before .before .read-words .ensures) _ _ (c .before .before .before .before .before .filled .given .1) (c .before .before .before .before .before .before .before .before .before .before .before .before .read-words .kept .1 .0) (c .before .before .before .before .before .before .before .before .before .before .before .before .read-words .kept .1 .1 .0)
+    let entry = c .before .before .before .before .before .before .before .before .before .before
+    .before .before .before .before .before .before .before .before .before .before in
+    let at-read-words = c .before .before .before .before .before .before .before .before .before .before .before .before .read-words in
+    let at-filled = c .before .before .before .before .before .filled in
+    holds-there (entry .args .sheet .now) _ _ _ _ _ _ (at-read-words .ensures) _ _
+    (at-filled .given .1) (at-read-words .kept .1 .0) (at-read-words .kept .1 .1 .0)
 
 enum-known-filled-2 : tie.Need-enum-known-filled-2
 enum-known-filled-2 c = search needs
@@ -35,7 +38,12 @@ same-length-3 c = search needs
 
 returns : tie.Need-returns
 returns c =
-    allows-there (c .before .before .before .before .before .before .before .before .before .before .before .before .before .before .before .before .before .before .before .before .before .before .before .before .before .before .before .args .sheet .now) _ _ _ _ _ _ _ _ _ (c .before .before .before .before .before .before .before .before .before .before .before .before .before .before .before .before .before .before .before .read-words .kept .1 .0) (c .before .before .before .before .before .before .before .before .before .before .before .before .before .before .before .before .before .before .before .read-words .kept .1 .1 .0) (c .before .before .before .before .before .before .value-and-print .ensures)
+    let entry = c .before .before .before .before .before .before .before .before .before .before .before .before .before
+    .before .before .before .before .before .before .before .before .before .before .before .before .before .before in
+    let at-read-words = c .before .before .before .before .before .before .before .before .before
+    .before .before .before .before .before .before .before .before .before .before .read-words in
+    let at-value-and-print = c .before .before .before .before .before .before .value-and-print in
+    allows-there (entry .args .sheet .now) _ _ _ _ _ _ _ _ _ (at-read-words .kept .1 .0) (at-read-words .kept .1 .1 .0) (at-value-and-print .ensures)
 
 same-length-4 : tie.Need-same-length-4
 same-length-4 c = search needs
@@ -45,7 +53,9 @@ same-length-5 c = search needs
 
 returns-2 : tie.Need-returns-2
 returns-2 c =
-    refuses (c .before .before .before .before .before .before .before .before .before .before .before .before .before .before .before .before .args .sheet .now) _ _ _ _ _ _ (c .before .before .before .before .before .before .before .before .read-words .ensures) _ _ (c .before .filled2 .given .1)
+    let entry = c .before .before .before .before .before .before .before .before .before .before .before .before .before .before .before .before in
+    let at-read-words = c .before .before .before .before .before .before .before .before .read-words in
+    refuses (entry .args .sheet .now) _ _ _ _ _ _ (at-read-words .ensures) _ _ (c .before .filled2 .given .1)
 
 pub read-sheet-spec : {M : Type 1} → statement M
 read-sheet-spec =

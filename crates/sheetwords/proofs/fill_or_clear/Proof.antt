@@ -1,20 +1,12 @@
 use borrow.Author.Needs.{needs}
-use mathlib.Core.Path.{sym, ap, _∙_}
-use native.Mathlib.Omega.{arith}
+use mathlib.Core.Path.{ap, _∙_}
 use Prim.Native.Nat.{ℕ}
 use mathlib.Core.List.{[]}
-use lib.ListN.{length, replicate}
-use Rattle.sheetwords.specs.Buffers.{padded}
+use lib.ListN.{length}
+use Rattle.buffers.specs.Padded.{padded}
 use Rattle.sheetwords.proofs.Turns.{filled-stays, nothing-stays}
-use borrow.Author.Needs.{needs}
 use Rattle.sheetwords.proofs.fill_or_clear.Statement.{statement}
 use Rattle.sheetwords.proofs.fill_or_clear.Tie as tie
-use Rattle.sheetwords.proofs.fill_or_clear.Reads as reads
-use Rattle.sheetwords.proofs.fill_or_clear.Lts as lts
-use Rattle.sheetwords.proofs.clear_heads.Reads as clear-heads-reads
-use Rattle.sheetwords.proofs.clear_names.Reads as clear-names-reads
-use Rattle.sheetwords.proofs.clear_words.Reads as clear-words-reads
-use Rattle.sheetwords.proofs.fill.Reads as fill-reads
 
 fill-requires : tie.Need-fill-requires
 fill-requires c κs = search needs
@@ -45,7 +37,8 @@ same-length-3 c = search needs
 
 returns : tie.Need-returns
 returns c =
-    filled-stays _ _ _ _ _ _ _ _ _ (c .before .before .before .before .before .before .before .before .before .fill .ensures) (c .before .filled .given .1) (c .before .before .before .before .before .before .before .before .before .fill .kept .1 .0) (c .before .before .before .before .before .before .before .before .before .fill .kept .1 .1 .0)
+    let at-fill = c .before .before .before .before .before .before .before .before .before .fill in
+    filled-stays _ _ _ _ _ _ _ _ _ (at-fill .ensures) (c .before .filled .given .1) (at-fill .kept .1 .0) (at-fill .kept .1 .1 .0)
 
 same-length-4 : tie.Need-same-length-4
 same-length-4 c = search needs
@@ -58,7 +51,16 @@ same-length-6 c = search needs
 
 returns-2 : tie.Need-returns-2
 returns-2 c =
-    nothing-stays _ _ _ _ _ _ _ _ _ _ _ (c .before .before .before .before .before .before .before .before .before .before .before .before .before .before .before .before .before .before .before .before .before .fill .ensures) (c .before .before .before .before .before .before .before .before .before .before .before .before .before .filled2 .given .1) (c .before .before .before .before .before .before .before .before .before .before .clear-words .ensures ∙ ap (λ (n : ℕ). padded n []) (c .before .before .before .before .before .before .before .before .before .before .before .before .before .before .before .before .before .before .before .before .before .fill .kept .1 .0)) (c .before .before .before .before .before .before .clear-names .ensures ∙ ap (λ (n : ℕ). padded n []) (c .before .before .before .before .before .before .before .before .before .before .before .before .before .before .before .before .before .before .before .before .before .fill .kept .1 .1 .0)) (c .before .before .clear-heads .ensures ∙ ap (λ (n : ℕ). padded n []) (c .before .before .before .before .before .before .before .before .before .before .before .before .before .before .before .before .before .before .before .before .before .fill .kept .1 .1 .1 .0 ∙ ap length (c .before .before .before .before .before .before .before .before .before .before .before .before .before .before .before .before .before .before .before .before .before .before .before .before .before .before .before .before .before .pre .1 .1 .1 .1)))
+    let entry = c .before .before .before .before .before .before .before .before .before .before .before .before .before .before
+    .before .before .before .before .before .before .before .before .before .before .before .before .before .before .before in
+    let at-fill = c .before .before .before .before .before .before .before .before .before .before
+    .before .before .before .before .before .before .before .before .before .before .before .fill in
+    let at-filled2 = c .before .before .before .before .before .before .before .before .before .before .before .before .before .filled2 in
+    let at-clear-words = c .before .before .before .before .before .before .before .before .before .before .clear-words in
+    let at-clear-names = c .before .before .before .before .before .before .clear-names in
+    nothing-stays _ _ _ _ _ _ _ _ _ _ _ (at-fill .ensures) (at-filled2 .given .1) (at-clear-words .ensures ∙ ap (λ (n : ℕ). padded n []) (at-fill .kept .1 .0))
+    (at-clear-names .ensures ∙ ap (λ (n : ℕ). padded n []) (at-fill .kept .1 .1 .0))
+    (c .before .before .clear-heads .ensures ∙ ap (λ (n : ℕ). padded n []) (at-fill .kept .1 .1 .1 .0 ∙ ap length (entry .pre .1 .1 .1 .1)))
 
 pub fill-or-clear-spec : {M : Type 1} → statement M
 fill-or-clear-spec =

@@ -14,11 +14,13 @@ enum-known-n c = search needs
 
 array-share-prefix-sheet : tie.Need-array-share-prefix-sheet
 array-share-prefix-sheet c =
-    whole-input _ _ (c .before .before .before .before .read-input .ensures) (c .before .n .given .1) .0
+    let at-read-input = c .before .before .before .before .read-input in
+    whole-input _ _ (at-read-input .ensures) (c .before .n .given .1) .0
 
 slice-aggregate-answer-sheet : tie.Need-slice-aggregate-answer-sheet
 slice-aggregate-answer-sheet c =
-    whole-input _ _ (c .before .before .before .before .before .read-input .ensures) (c .before .before .n .given .1) .1
+    let at-read-input = c .before .before .before .before .before .read-input in
+    whole-input _ _ (at-read-input .ensures) (c .before .before .n .given .1) .1
 
 answer-sheet-requires : tie.Need-answer-sheet-requires
 answer-sheet-requires c κs = search needs

@@ -48,7 +48,9 @@ same-length c = search needs
 
 returns : tie.Need-returns Inv-loop μ-loop
 returns c =
-    counted (c .before .before .before .before .before .before .before .loop .place) (c .before .before .before .before .read-some .last .0) (search needs)
+    let at-loop = c .before .before .before .before .before .before .before .loop in
+    let at-read-some = c .before .before .before .before .read-some in
+    counted (at-loop .place) (at-read-some .last .0) (search needs)
 
 enum-told-2 : tie.Need-enum-told-2 Inv-loop μ-loop
 enum-told-2 c = search needs

@@ -21,7 +21,8 @@ enum-known-c c = search needs
 
 array-share-prefix-text : tie.Need-array-share-prefix-text
 array-share-prefix-text c =
-    accepted-fits _ _ _ _ (c .before .before .before .before .before .before .read-sheet .ensures) (c .before .c .given .0 .0) (c .before .c .given .1)
+    let at-read-sheet = c .before .before .before .before .before .before .read-sheet in
+    accepted-fits _ _ _ _ (at-read-sheet .ensures) (c .before .c .given .0 .0) (c .before .c .given .1)
 
 slice-aggregate-write-all : tie.Need-slice-aggregate-write-all
 slice-aggregate-write-all c =

@@ -1,11 +1,11 @@
 use borrow.Author.Needs.{needs}
-use mathlib.Core.Path.{_≡_, refl}
+use mathlib.Core.Path.{_≡_}
 use Prim.Native.Nat.{_+_, _-_, _*_, _≤_}
 use native.Mathlib.Nat.{zero-add}
 use native.Mathlib.Omega.{arith}
 use lib.ListN.{take, drop}
 use Rattle.bits.specs.Sets.{member}
-use Rattle.valuesheet.specs.ValueSheet.{bytesFrom}
+use Rattle.valuesheet.specs.Fitting.{bytesFrom}
 use Rattle.valuesheet.proofs.Printing.{bytes-turn, no-bytes}
 use Rattle.valuesheet.proofs.bytes_needed.Statement.{statement}
 use Rattle.valuesheet.proofs.bytes_needed.Tie as tie
@@ -42,11 +42,22 @@ loop-less c = search needs
 
 loop-again : tie.Need-loop-again Inv-loop μ-loop
 loop-again c =
-    (omega arith, omega (arith, c .line-bytes .ensures .1), bytes-turn _ (c .before .before .before .before .before .before .before .args .names .now) (c .before .before .before .before .before .before .before .args .n) (c .before .before .before .before .loop .a) (c .before .before .before .before .before .before .before .pre .1) (c .before .before .before .loop-test .taken) _ _ (c .before .before .has-line .ensures) (c .before .entry .ensures .0) (c .before .before .before .before .loop .total) _ _ (c .line-bytes .ensures .0) (c .before .before .before .before .loop .inv .2))
+    let entry = c .before .before .before .before .before .before .before in
+    let at-loop = c .before .before .before .before .loop in (
+      omega arith,
+      omega (arith, c .line-bytes .ensures .1),
+      bytes-turn _ (entry .args .names .now) (entry .args .n) (at-loop .a) (entry .pre .1) (c .before .before .before .loop-test .taken) _ _
+          (c .before .before .has-line .ensures) (c .before .entry .ensures .0) (at-loop .total) _ _ (c .line-bytes .ensures .0) (at-loop .inv .2),
+    )
 
 returns : tie.Need-returns Inv-loop μ-loop
 returns c =
-    omega (arith, c .before .loop .inv .2, no-bytes (member (c .before .before .before .before .args .heads .now)) (c .before .before .before .before .args .names .now) (c .before .before .before .before .args .n) (c .before .loop .a) (c .before .before .before .before .pre .1) (c .loop-test .left))
+    let entry = c .before .before .before .before in
+    omega (
+      arith,
+      c .before .loop .inv .2,
+      no-bytes (member (entry .args .heads .now)) (entry .args .names .now) (entry .args .n) (c .before .loop .a) (entry .pre .1) (c .loop-test .left),
+    )
 
 pub bytes-needed-spec : {M : Type 1} → statement M
 bytes-needed-spec =

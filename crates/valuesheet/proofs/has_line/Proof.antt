@@ -1,5 +1,5 @@
 use borrow.Author.Needs.{needs}
-use mathlib.Core.Path.{sym, _∙_}
+use mathlib.Core.Path.{sym}
 use Rattle.valuesheet.proofs.has_line.Statement.{statement}
 use Rattle.valuesheet.proofs.has_line.Tie as tie
 

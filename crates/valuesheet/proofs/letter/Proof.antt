@@ -1,4 +1,3 @@
-use borrow.Author.Needs.{needs}
 use Rattle.valuesheet.specs.ValueSheet.{letterOf}
 use Rattle.valuesheet.proofs.Printing.{letter-t}
 use Rattle.valuesheet.proofs.letter.Statement.{statement}

@@ -1,6 +1,5 @@
 use borrow.Author.Needs.{needs}
 use mathlib.Core.Path.{sym, _∙_}
-use native.Mathlib.Omega.{arith}
 use lib.ListN.{getD, take}
 use Rattle.bits.specs.Sets.{member}
 use Rattle.valuesheet.specs.ValueSheet.{valueSheet}
@@ -13,8 +12,12 @@ bytes-needed-requires c κs = search needs
 
 returns : tie.Need-returns
 returns c =
-    let out = valueSheet (c .before .before .before .before .before .before .before .args .sheet .now) (member (c .before .before .before .before .before .before .before .args .heads .now)) (λ x. getD (c .before .before .before .before .before .before .before .args .values .now) x 0) (take (c .before .before .before .before .before .before .before .args .n) (c .before .before .before .before .before .before .before .args .names .now)) in
-    does-not-fit out _ _ (c .before .bytes-needed .ensures ∙ sym (lines-length (c .before .before .before .before .before .before .before .args .sheet .now) (member (c .before .before .before .before .before .before .before .args .heads .now)) (λ x. getD (c .before .before .before .before .before .before .before .args .values .now) x 0) 0 (take (c .before .before .before .before .before .before .before .args .n) (c .before .before .before .before .before .before .before .args .names .now)))) (c .if1 .taken)
+    let entry = c .before .before .before .before .before .before .before in
+    let out = valueSheet (entry .args .sheet .now) (member (entry .args .heads .now))
+    (λ x. getD (entry .args .values .now) x 0) (take (entry .args .n) (entry .args .names .now)) in
+    does-not-fit out _ _ (c .before .bytes-needed .ensures
+    ∙ sym (lines-length (entry .args .sheet .now) (member (entry .args .heads .now)) (λ x. getD (entry .args .values .now) x 0) 0
+    (take (entry .args .n) (entry .args .names .now)))) (c .if1 .taken)
 
 put-lines-requires : tie.Need-put-lines-requires
 put-lines-requires c κs = search needs
@@ -24,8 +27,14 @@ same-length c = search needs
 
 returns-2 : tie.Need-returns-2
 returns-2 c =
-    let out = valueSheet (c .before .before .before .before .before .before .before .before .before .before .before .args .sheet .now) (member (c .before .before .before .before .before .before .before .before .before .before .before .args .heads .now)) (λ x. getD (c .before .before .before .before .before .before .before .before .before .before .before .args .values .now) x 0) (take (c .before .before .before .before .before .before .before .before .before .before .before .args .n) (c .before .before .before .before .before .before .before .before .before .before .before .args .names .now)) in
-    fits-whole out _ _ _ (c .before .before .before .before .before .bytes-needed .ensures ∙ sym (lines-length (c .before .before .before .before .before .before .before .before .before .before .before .args .sheet .now) (member (c .before .before .before .before .before .before .before .before .before .before .before .args .heads .now)) (λ x. getD (c .before .before .before .before .before .before .before .before .before .before .before .args .values .now) x 0) 0 (take (c .before .before .before .before .before .before .before .before .before .before .before .args .n) (c .before .before .before .before .before .before .before .before .before .before .before .args .names .now)))) (c .before .before .before .before .if1 .left) (c .before .before .put-lines .ensures)
+    let entry = c .before .before .before .before .before .before .before .before .before .before .before in
+    let at-bytes-needed = c .before .before .before .before .before .bytes-needed in
+    let at-if1 = c .before .before .before .before .if1 in
+    let out = valueSheet (entry .args .sheet .now) (member (entry .args .heads .now))
+    (λ x. getD (entry .args .values .now) x 0) (take (entry .args .n) (entry .args .names .now)) in
+    fits-whole out _ _ _
+    (at-bytes-needed .ensures ∙ sym (lines-length (entry .args .sheet .now) (member (entry .args .heads .now)) (λ x. getD (entry .args .values .now) x 0) 0
+    (take (entry .args .n) (entry .args .names .now)))) (at-if1 .left) (c .before .before .put-lines .ensures)
 
 pub print-spec : {M : Type 1} → statement M
 print-spec =

@@ -1,5 +1,4 @@
 use borrow.Author.Needs.{needs}
-use native.Mathlib.Omega.{arith}
 use Rattle.valuesheet.proofs.Printing.{line-is}
 use Rattle.valuesheet.proofs.put_line.Statement.{statement}
 use Rattle.valuesheet.proofs.put_line.Tie as tie
@@ -18,7 +17,9 @@ same-length c = search needs
 
 returns : tie.Need-returns
 returns c =
-    line-is (c .before .before .before .before .before .before .before .before .before .before .args .sheet .now) (c .before .before .before .before .before .before .before .before .before .before .args .e) (c .before .before .before .before .before .before .before .before .before .before .args .v) _ _ _ (c .before .before .before .before .before .before .before .before .before .before .args .at) (c .before .before .before .before .before .before .put-name .ensures) (c .before .before .put-value .ensures)
+    let entry = c .before .before .before .before .before .before .before .before .before .before in
+    let at-put-name = c .before .before .before .before .before .before .put-name in
+    line-is (entry .args .sheet .now) (entry .args .e) (entry .args .v) _ _ _ (entry .args .at) (at-put-name .ensures) (c .before .before .put-value .ensures)
 
 pub put-line-spec : {M : Type 1} → statement M
 put-line-spec =

@@ -1,20 +1,23 @@
 use borrow.Author.Needs.{needs}
 use mathlib.Core.Path.{_≡_, refl, sym, ap, _∙_}
-use mathlib.Core.List.{List}
-use Prim.Native.Nat.{ℕ, _+_, _-_, _*_, _≤_}
+use Prim.Native.Nat.{_+_, _-_, _*_, _≤_}
 use native.Mathlib.Nat.{zero-add}
 use native.Mathlib.Omega.{arith}
 use lib.ListN.{length, getD, take, drop}
 use lib.Seq.{sets}
 use Rattle.bits.specs.Sets.{member}
-use Rattle.valuesheet.specs.ValueSheet.{linesFrom, bytesFrom}
+use Rattle.valuesheet.specs.ValueSheet.{linesFrom}
+use Rattle.valuesheet.specs.Fitting.{bytesFrom}
 use Rattle.valuesheet.proofs.Printing.{bytes-turn, line-fits, lines-turn, no-lines}
 use Rattle.valuesheet.proofs.put_lines.Statement.{statement}
 use Rattle.valuesheet.proofs.put_lines.Tie as tie
 
 abbrev Inv-loop : tie.InvT-loop
 Inv-loop sheet names n heads values text₀ at₀ a₀ text at a =
-    (a ≤ n) × (at ≤ 34 * a) × (length text ≡ length text₀) × (at + bytesFrom (member heads) a (drop a (take n names)) ≡ bytesFrom (member heads) 0 (take n names)) × (sets text at (linesFrom sheet (member heads) (λ x. getD values x 0) a (drop a (take n names))) ≡ sets text₀ 0 (linesFrom sheet (member heads) (λ x. getD values x 0) 0 (take n names)))
+    (a ≤ n) × (at ≤ 34 * a) × (length text ≡ length text₀)
+    × (at + bytesFrom (member heads) a (drop a (take n names)) ≡ bytesFrom (member heads) 0 (take n names))
+    × (sets text at (linesFrom sheet (member heads) (λ x. getD values x 0) a (drop a (take n names)))
+    ≡ sets text₀ 0 (linesFrom sheet (member heads) (λ x. getD values x 0) 0 (take n names)))
 
 abbrev μ-loop : tie.MeasureT-loop
 μ-loop sheet names n heads values text₀ at₀ a₀ text at a =
@@ -35,7 +38,18 @@ byte-requires c κs = search needs
 
 put-line-if-requires : tie.Need-put-line-if-requires Inv-loop μ-loop
 put-line-if-requires c κs =
-    (c .before .before .entry .ensures .1, omega (arith, line-fits _ (c .before .before .before .before .before .before .before .before .before .before .before .args .names .now) (c .before .before .before .before .before .before .before .before .before .before .before .args .n) (c .before .before .before .before .before .loop .a) (c .before .before .before .before .before .before .before .before .before .before .before .pre .1 .0) (c .before .before .before .before .loop-test .taken) _ _ (c .before .before .before .has-line .ensures) (c .before .before .entry .ensures .0) (c .before .before .before .before .before .loop .at) _ (c .before .before .before .before .before .loop .inv .3), c .before .before .before .before .before .before .before .before .before .before .before .pre .1 .1, c .before .before .before .before .before .loop .inv .2))
+    let entry = c .before .before .before .before .before .before .before .before .before .before .before in
+    let at-loop = c .before .before .before .before .before .loop in
+    let at-loop-test = c .before .before .before .before .loop-test in (
+      c .before .before .entry .ensures .1,
+      omega (
+        arith,
+        line-fits _ (entry .args .names .now) (entry .args .n) (at-loop .a) (entry .pre .1 .0) (at-loop-test .taken) _ _
+            (c .before .before .before .has-line .ensures) (c .before .before .entry .ensures .0) (at-loop .at) _ (at-loop .inv .3),
+        entry .pre .1 .1,
+        at-loop .inv .2,
+      ),
+    )
 
 line-bytes-requires : tie.Need-line-bytes-requires Inv-loop μ-loop
 line-bytes-requires c κs = search needs
@@ -51,7 +65,21 @@ loop-less c = search needs
 
 loop-again : tie.Need-loop-again Inv-loop μ-loop
 loop-again c =
-    (omega arith, omega (arith, c .line-bytes .ensures .1), c .before .before .before .put-line-if .kept .1 .1 .1 .1 .0 ∙ c .before .before .before .before .before .before .before .before .before .loop .inv .2, bytes-turn _ (c .before .before .before .before .before .before .before .before .before .before .before .before .before .before .before .args .names .now) (c .before .before .before .before .before .before .before .before .before .before .before .before .before .before .before .args .n) (c .before .before .before .before .before .before .before .before .before .loop .a) (c .before .before .before .before .before .before .before .before .before .before .before .before .before .before .before .pre .1 .0) (c .before .before .before .before .before .before .before .before .loop-test .taken) _ _ (c .before .before .before .before .before .before .before .has-line .ensures) (c .before .before .before .before .before .before .entry .ensures .0) (c .before .before .before .before .before .before .before .before .before .loop .at) _ _ (c .line-bytes .ensures .0) (c .before .before .before .before .before .before .before .before .before .loop .inv .3), lines-turn _ (c .before .before .before .before .before .before .before .before .before .before .before .before .before .before .before .args .names .now) (c .before .before .before .before .before .before .before .before .before .before .before .before .before .before .before .args .n) (c .before .before .before .before .before .before .before .before .before .loop .a) (c .before .before .before .before .before .before .before .before .before .before .before .before .before .before .before .pre .1 .0) (c .before .before .before .before .before .before .before .before .loop-test .taken) _ _ (c .before .before .before .before .before .before .before .has-line .ensures) (c .before .before .before .before .before .before .entry .ensures .0) (c .before .before .before .before .before .before .before .before .before .before .before .before .before .before .before .args .sheet .now) (λ x. getD (c .before .before .before .before .before .before .before .before .before .before .before .before .before .before .before .args .values .now) x 0) (c .before .before .before .before .before .before .before .before .before .loop .text) _ (c .before .before .before .before .before .before .before .before .before .loop .at) _ _ (c .before .before .before .before .before .byte .ensures) (c .line-bytes .ensures .0) (c .before .before .before .put-line-if .ensures) ∙ c .before .before .before .before .before .before .before .before .before .loop .inv .4)
+    let entry = c .before .before .before .before .before .before .before .before .before .before .before .before .before .before .before in
+    let at-loop = c .before .before .before .before .before .before .before .before .before .loop in
+    let at-loop-test = c .before .before .before .before .before .before .before .before .loop-test in
+    let at-has-line = c .before .before .before .before .before .before .before .has-line in
+    let at-entry = c .before .before .before .before .before .before .entry in
+    let at-byte = c .before .before .before .before .before .byte in (
+      omega arith,
+      omega (arith, c .line-bytes .ensures .1),
+      c .before .before .before .put-line-if .kept .1 .1 .1 .1 .0 ∙ at-loop .inv .2,
+      bytes-turn _ (entry .args .names .now) (entry .args .n) (at-loop .a) (entry .pre .1 .0) (at-loop-test .taken) _ _
+          (at-has-line .ensures) (at-entry .ensures .0) (at-loop .at) _ _ (c .line-bytes .ensures .0) (at-loop .inv .3),
+      lines-turn _ (entry .args .names .now) (entry .args .n) (at-loop .a) (entry .pre .1 .0) (at-loop-test .taken) _ _
+          (at-has-line .ensures) (at-entry .ensures .0) (entry .args .sheet .now) (λ x. getD (entry .args .values .now) x 0) (at-loop .text) _
+          (at-loop .at) _ _ (at-byte .ensures) (c .line-bytes .ensures .0) (c .before .before .before .put-line-if .ensures) ∙ at-loop .inv .4,
+    )
 
 same-length : tie.Need-same-length Inv-loop μ-loop
 same-length c =
@@ -59,7 +87,10 @@ same-length c =
 
 returns : tie.Need-returns Inv-loop μ-loop
 returns c =
-    ap (sets (c .before .loop .text) (c .before .loop .at)) (sym (no-lines (c .before .before .before .before .before .before .before .args .sheet .now) (member (c .before .before .before .before .before .before .before .args .heads .now)) (λ x. getD (c .before .before .before .before .before .before .before .args .values .now) x 0) (c .before .before .before .before .before .before .before .args .names .now) (c .before .before .before .before .before .before .before .args .n) (c .before .loop .a) (c .before .before .before .before .before .before .before .pre .1 .0) (c .loop-test .left))) ∙ c .before .loop .inv .4
+    let entry = c .before .before .before .before .before .before .before in
+    ap (sets (c .before .loop .text) (c .before .loop .at)) (sym (no-lines (entry .args .sheet .now) (member (entry .args .heads .now))
+    (λ x. getD (entry .args .values .now) x 0) (entry .args .names .now) (entry .args .n) (c .before .loop .a) (entry .pre .1 .0) (c .loop-test .left)))
+    ∙ c .before .loop .inv .4
 
 pub put-lines-spec : {M : Type 1} → statement M
 put-lines-spec =

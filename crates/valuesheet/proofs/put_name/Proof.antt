@@ -19,7 +19,8 @@ abbrev μ-loop : tie.MeasureT-loop
 
 loop-holds : tie.Need-loop-holds Inv-loop μ-loop
 loop-holds c =
-    (omega arith, refl, name-begins (c .before .before .args .sheet .now) (c .before .before .args .start) (c .before .before .args .len) (c .before .before .args .text .now) (c .before .before .args .at))
+    let entry = c .before .before in
+    (omega arith, refl, name-begins (entry .args .sheet .now) (entry .args .start) (entry .args .len) (entry .args .text .now) (entry .args .at))
 
 add-byte : tie.Need-add-byte Inv-loop μ-loop
 add-byte c = search needs
@@ -41,14 +42,22 @@ loop-less c = search needs
 
 loop-again : tie.Need-loop-again Inv-loop μ-loop
 loop-again c =
-    (omega arith, length-set (c .before .before .loop .text) _ _ ∙ c .before .before .loop .inv .1, name-turn (c .before .before .before .before .before .args .sheet .now) (c .before .before .before .before .before .args .start) (c .before .before .before .before .before .args .len) (c .before .before .loop .text) (c .before .before .before .before .before .args .at) (c .before .before .loop .i) _ (c .before .loop-test .taken) (c .byte .ensures) ∙ c .before .before .loop .inv .2)
+    let entry = c .before .before .before .before .before in
+    let at-loop = c .before .before .loop in (
+      omega arith,
+      length-set (at-loop .text) _ _ ∙ at-loop .inv .1,
+      name-turn (entry .args .sheet .now) (entry .args .start)
+          (entry .args .len) (at-loop .text) (entry .args .at) (at-loop .i) _ (c .before .loop-test .taken) (c .byte .ensures) ∙ at-loop .inv .2,
+    )
 
 same-length : tie.Need-same-length Inv-loop μ-loop
 same-length c = search needs
 
 returns : tie.Need-returns Inv-loop μ-loop
 returns c =
-    sym (name-ends (c .before .before .before .before .args .sheet .now) (c .before .before .before .before .args .start) (c .before .before .before .before .args .len) (c .before .loop .text) (c .before .before .before .before .args .at) (c .before .loop .i) (c .loop-test .left)) ∙ c .before .loop .inv .2
+    let entry = c .before .before .before .before in
+    sym (name-ends (entry .args .sheet .now) (entry .args .start) (entry .args .len) (c .before .loop .text)
+    (entry .args .at) (c .before .loop .i) (c .loop-test .left)) ∙ c .before .loop .inv .2
 
 pub put-name-spec : {M : Type 1} → statement M
 put-name-spec =

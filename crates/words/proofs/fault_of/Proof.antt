@@ -6,8 +6,8 @@ use Rattle.words.proofs.fault_of.Tie as tie
 enum-told : tie.Need-enum-told
 enum-told c = search needs
 
-literal-fault-requires : tie.Need-literal-fault-requires
-literal-fault-requires c κs = search needs
+code-fault-requires : tie.Need-code-fault-requires
+code-fault-requires c κs = search needs
 
 repeat-fault-requires : tie.Need-repeat-fault-requires
 repeat-fault-requires c κs = search needs
@@ -30,11 +30,17 @@ length-fault-requires-2 c κs = search needs
 enum-told-4 : tie.Need-enum-told-4
 enum-told-4 c = search needs
 
-literal-fault-requires-2 : tie.Need-literal-fault-requires-2
-literal-fault-requires-2 c κs = search needs
+code-fault-requires-2 : tie.Need-code-fault-requires-2
+code-fault-requires-2 c κs = search needs
 
 returns : tie.Need-returns
-returns c = simp (c .before .before .before .enum-told .given .1, sym (c .before .before .literal-fault .ensures), sym (c .before .repeat-fault .ensures), sym (c .first-of .ensures))
+returns c =
+    simp (
+      c .before .before .before .enum-told .given .1,
+      sym (c .before .before .code-fault .ensures),
+      sym (c .before .repeat-fault .ensures),
+      sym (c .first-of .ensures),
+    )
 
 returns-2 : tie.Need-returns-2
 returns-2 c = simp (c .before .enum-told2 .given .1, sym (c .length-fault .ensures))
@@ -43,14 +49,14 @@ returns-3 : tie.Need-returns-3
 returns-3 c = simp (c .before .enum-told3 .given .1, sym (c .length-fault2 .ensures))
 
 returns-4 : tie.Need-returns-4
-returns-4 c = simp (c .before .enum-told4 .given .1, sym (c .literal-fault2 .ensures))
+returns-4 c = simp (c .before .enum-told4 .given .1, sym (c .code-fault2 .ensures))
 
 pub fault-of-spec : {M : Type 1} → statement M
 fault-of-spec =
     tie.close
     (tie.spec
     enum-told
-    literal-fault-requires
+    code-fault-requires
     repeat-fault-requires
     first-of-requires
     enum-told-2
@@ -58,7 +64,7 @@ fault-of-spec =
     enum-told-3
     length-fault-requires-2
     enum-told-4
-    literal-fault-requires-2
+    code-fault-requires-2
     returns
     returns-2
     returns-3

@@ -22,7 +22,9 @@ same-length : tie.Need-same-length
 same-length c = search needs
 
 returns : tie.Need-returns
-returns c = simp (c .before .before .before .before .enum-told .given .1, sym (c .before .before .put .ensures))
+returns c =
+    let at-enum-told = c .before .before .before .before .enum-told in
+    simp (at-enum-told .given .1, sym (c .before .before .put .ensures))
 
 returns-2 : tie.Need-returns-2
 returns-2 c = search needs

@@ -36,7 +36,10 @@ returns : tie.Need-returns Inv-loop μ-loop
 returns c =
     let a = c .before .before .before .before .before .before .before .before .before .args in
     let l = c .before .before .before .before .before .before .before .loop in
-    stops (a .n) (a .table .now) (l .seen) (l .due) (l .i) _ (l .inv .2) (c .before .before .before .before .before .before .loop-test .taken) (c .before .before .before .before .before .word .ensures .0) (c .before .before .before .fault-of .ensures) (c .before .r .given .1)
+    let at-loop-test = c .before .before .before .before .before .before .loop-test in
+    let at-word = c .before .before .before .before .before .word in
+    stops (a .n) (a .table .now) (l .seen) (l .due) (l .i) _
+    (l .inv .2) (at-loop-test .taken) (at-word .ensures .0) (c .before .before .before .fault-of .ensures) (c .before .r .given .1)
 
 enum-told : tie.Need-enum-told Inv-loop μ-loop
 enum-told c = search needs
@@ -58,11 +61,17 @@ loop-less c = search needs
 
 loop-again : tie.Need-loop-again Inv-loop μ-loop
 loop-again c =
-    let a = c .before .before .before .before .before .before .before .before .before .before .before .before .args in
-    let l = c .before .before .before .before .before .before .before .before .before .before .loop in (
+    let entry = c .before .before .before .before .before .before .before .before .before .before .before .before in
+    let l = c .before .before .before .before .before .before .before .before .before .before .loop in
+    let at-loop-test = c .before .before .before .before .before .before .before .before .before .loop-test in
+    let at-word = c .before .before .before .before .before .before .before .before .word in
+    let at-fault-of = c .before .before .before .before .before .before .fault-of in
+    let at-enum-told = c .before .before .before .before .enum-told in
+    let a = entry .args in (
       omega arith,
       length-noted-16 (l .due) (l .seen) _ (l .inv .1) (c .before .before .note .ensures),
-      goes-on (a .n) (a .table .now) (l .seen) (l .due) (l .i) _ (l .inv .2) (c .before .before .before .before .before .before .before .before .before .before .before .before .pre) (l .inv .1) (c .before .before .before .before .before .before .before .before .before .loop-test .taken) (c .before .before .before .before .before .before .before .before .word .ensures .0) (c .before .before .before .before .before .before .fault-of .ensures) (c .before .before .before .before .enum-told .given .1) (c .before .before .note .ensures) (c .next-due .ensures),
+      goes-on (a .n) (a .table .now) (l .seen) (l .due) (l .i) _ (l .inv .2) (entry .pre) (l .inv .1) (at-loop-test .taken)
+          (at-word .ensures .0) (at-fault-of .ensures) (at-enum-told .given .1) (c .before .before .note .ensures) (c .next-due .ensures),
     )
 
 ended-at-requires : tie.Need-ended-at-requires Inv-loop μ-loop

@@ -1,6 +1,8 @@
--- `Reader::next` meets its contract: a walk of its MIR, by hand. The borrow is opened, the sheet and the place are copied out, `next_at` is called on them, its place is stored, and the borrow is closed at the struct with the new place; its reading is the result.
--- The struct is Copy: what it owns is had twice, one copy is kept for the close, and of the other what the sheet owns goes to the callee, beside the token of its lifetime, which comes back.
-use mathlib.Core.Path.{_≡_, refl, sym, ap, _∙_}
+-- `Reader::next` meets its contract: a walk of its MIR, by hand. The borrow is opened, the sheet and the place are copied out, `next_at`
+-- is called on them, its place is stored, and the borrow is closed at the struct with the new place; its reading is the result.
+-- The struct is Copy: what it owns is had twice, one copy is kept for the close, and of the other
+-- what the sheet owns goes to the callee, beside the token of its lifetime, which comes back.
+use mathlib.Core.Path.{_≡_, refl, ap}
 use Prim.Native.Nat.{ℕ, _<_, _^_}
 use mathlib.Core.List.{List, [], _∷_}
 use lib.ListN.{length}
@@ -36,7 +38,7 @@ use denote.Struct.Declared.{Declared}
 use denote.Struct.Laws as LL
 use denote.Struct.Rest.{all-own, ownAt, rest, own-open, own-out, own-put}
 use denote.Struct.Values.{Values}
-use denote.Struct.At.{spelled, valAt}
+use denote.Struct.At.{spelled}
 use denote.Struct.Steps.{spelt}
 use denote.Triple.Statement.{Contract, Triple}
 use denote.Triple.Call.{calls-at}
@@ -47,7 +49,6 @@ use denote.Triple.Table.{entered, cited}
 use denote.Triple.Walked.{says, Stays, stay-ref, walkOf, goes-ref, Walks, ends-at, walked, walk-meets}
 use Rattle.reader.specs.Readings.{readingAt, placeAfter, nextAt}
 use Rattle.reader.specs.declared.Reader.{Reader}
-use Rattle.reader.specs.declared.Reading.{Reading}
 use Rattle.reader.specs.declared.Next.{Next}
 use Rattle.reader.proofs.Reader as T
 use Rattle.reader.proofs.Reader.Laws as T′
@@ -91,7 +92,8 @@ place-of : (s : List ℕ) (p : ℕ) (r : Next) → r ≡ nextAt s p → r .place
 unfolding nextAt
 place-of s p r e = ap (λ (x : Next). x .place) e
 
-module _ {M : Type 1} (𝓤 : URA M) (H : Heap 𝓤) (A : Atoms 𝓤) (W : Given 𝓤 H A) (at-mem : Memory → SProp 𝓤) (run : Routine → Fun 𝓤) (κ κ′ : Lft) (q q′ : Share) (bounds : AllOutlive 2 (next.signature .outlives) (κ, (κ′, tt))) (b o : ℕ) (γ : GName) (h : Reader) where
+module _ {M : Type 1} (𝓤 : URA M) (H : Heap 𝓤) (A : Atoms 𝓤) (W : Given 𝓤 H A) (at-mem : Memory → SProp 𝓤) (run : Routine → Fun 𝓤)
+    (κ κ′ : Lft) (q q′ : Share) (bounds : AllOutlive 2 (next.signature .outlives) (κ, (κ′, tt))) (b o : ℕ) (γ : GName) (h : Reader) where
   abbrev x : RefT Reader × Unit {0}
   x = (record { ptr = (b, o); name = γ; now = h }, tt)
 
@@ -131,16 +133,19 @@ module _ {M : Type 1} (𝓤 : URA M) (H : Heap 𝓤) (A : Atoms 𝓤) (W : Given
   to = (((κ′, tt), (q′, tt), tt, (h .sheet, (h .place, tt)), passed), tt)
 
   asked : ent 𝓤 (onEntry 𝓤 H A next-at.signature (κ′, tt) (q′, tt) (h .sheet, (h .place, tt)) passed) (NextAt 𝓤 H A at-mem run .pre to)
-  asked = qed W ((‵ (flft κ′ q′) ⊛ ‵ ftrue) ∷ ‵ (owns (ShrSlice (named 0) κ′ u8 ∷ usize ∷ []) (h .sheet, (h .place, tt)) passed) ∷ []) ∵ join ! $ frame ! $ done !
+  asked =
+      qed W ((‵ (flft κ′ q′) ⊛ ‵ ftrue) ∷ ‵ (owns (ShrSlice (named 0) κ′ u8 ∷ usize ∷ []) (h .sheet, (h .place, tt)) passed) ∷ []) ∵ join ! $ frame ! $ done !
 
   -- what the struct owns gives what the callee asks, and is kept
   apart : h .place < 2 ^ 64 → ent 𝓤 (⋆ 𝓤 H A (‵ Own ∷ (‵ (flft κ′ q′) ⊛ ‵ ftrue) ∷ [])) (sep 𝓤 (NextAt 𝓤 H A at-mem run .pre to) (sem 𝓤 H A Own))
   apart fits =
       qed W (‵ Own ∷ (‵ (flft κ′ q′) ⊛ ‵ ftrue) ∷ []) ∵
       use1 W (‵ Own ⊛ ‵ Own) (LL.copy D (T′.the-copy (α κ′)) 𝓤 H A W .twice h (T′.lowered h ∷ [])) $ split ! $
-      use1 W (given (T′.lowered h ∷ [] ≡ T′.lowered h ∷ []) (‵ (all-own (D .parts) L vd))) (own-open 𝓤 H A W D L vd (T′.lowered h)) $ learn ! (λ _. use1 W (‵ (ownAt (D .parts) L 0 (h .sheet)) ⊛ ‵ (rest (D .parts) L 0 vd)) (own-out 𝓤 H A W (D .parts) L 0 vd) $ split ! $
+      use1 W (given (T′.lowered h ∷ [] ≡ T′.lowered h ∷ []) (‵ (all-own (D .parts) L vd))) (own-open 𝓤 H A W D L vd (T′.lowered h)) $
+      learn ! (λ _. use1 W (‵ (ownAt (D .parts) L 0 (h .sheet)) ⊛ ‵ (rest (D .parts) L 0 vd)) (own-out 𝓤 H A W (D .parts) L 0 vd) $ split ! $
       -- [what the sheet owns; what the place owns; what the struct owns; the token]
-      move ! (1 ∷ []) $ drop ! $ nothing ! $ owned ! usize (Is usize) (uint-makes 𝓤 H A W w64) (h .place) _ (refl, fits) $ fjoin ! $ move ! (1 ∷ 0 ∷ []) $ fjoin ! $
+      move ! (1 ∷ []) $ drop ! $ nothing ! $ owned ! usize (Is usize) (uint-makes 𝓤 H A W w64) (h .place) _ (refl, fits) $
+      fjoin ! $ move ! (1 ∷ 0 ∷ []) $ fjoin ! $
       move ! (2 ∷ 0 ∷ []) $ use2 W (raw (NextAt 𝓤 H A at-mem run .pre to)) asked $ frame ! $ done !)
 
   said : (r : Next) → ent 𝓤 (ensured 𝓤 H A next-at.ended (next-at.clauses 𝓤 H A at-mem run) (κ′, tt) (h .sheet, (h .place, tt)) tt r) (fact 𝓤 (r ≡ found))
@@ -148,14 +153,20 @@ module _ {M : Type 1} (𝓤 : URA M) (H : Heap 𝓤) (A : Atoms 𝓤) (W : Given
 
   -- what the sheet owns is kept, and the place's facts are made anew
   again : (p : ℕ) → p < 2 ^ 64 → ent 𝓤 (sem 𝓤 H A Own) (sem 𝓤 H A (B κ′ .own (h′ p) (T′.lowered (h′ p) ∷ [])))
-  again p ok = qed W (‵ Own ∷ []) ∵ owned ! usize (Is usize) (uint-makes 𝓤 H A W w64) p _ (refl, ok) $ move ! (1 ∷ 0 ∷ []) $ by ! (own-put 𝓤 H A W D L 1 vd p (T′.lowered h))
+  again p ok =
+      qed W (‵ Own ∷ []) ∵ owned ! usize (Is usize) (uint-makes 𝓤 H A W w64) p _ (refl, ok) $
+      move ! (1 ∷ 0 ∷ []) $ by ! (own-put 𝓤 H A W D L 1 vd p (T′.lowered h))
 
-  exits : (r : Next) (u : Val) → r ≡ found → ent 𝓤 (⋆ 𝓤 H A (‵ (fobs γ (B κ′ .coded .code (h′ (r .place)))) ∷ ‵ (fbor κ (Body (mem (B κ′)) b o γ)) ∷ ‵ (flft κ q) ∷ (‵ (flft κ′ q′) ⊛ ‵ ftrue) ∷ ‵ (S.the-row .own (r .reading) (u ∷ [])) ∷ [])) (Post u)
+  exits : (r : Next) (u : Val) → r ≡ found → ent 𝓤 (⋆ 𝓤 H A (‵ (fobs γ (B κ′ .coded .code (h′ (r .place)))) ∷ ‵ (fbor κ (Body (mem (B κ′)) b o γ))
+      ∷ ‵ (flft κ q) ∷ (‵ (flft κ′ q′) ⊛ ‵ ftrue) ∷ ‵ (S.the-row .own (r .reading) (u ∷ [])) ∷ [])) (Post u)
   exits r u e =
-      qed W (‵ (fobs γ (B κ′ .coded .code (h′ (r .place)))) ∷ ‵ (fbor κ (Body (mem (B κ′)) b o γ)) ∷ ‵ (flft κ q) ∷ (‵ (flft κ′ q′) ⊛ ‵ ftrue) ∷ ‵ (S.the-row .own (r .reading) (u ∷ [])) ∷ []) ∵
-      suffices ! _ (ends-at 𝓤 H A next.ended stayed (next.clauses 𝓤 H A at-mem run) W (((κ, (κ′, tt)), (q, (q′, tt)), bounds, x, at), tt) u (r .reading) (h′ (r .place), tt) (tt, tt)) $
+      qed W (‵ (fobs γ (B κ′ .coded .code (h′ (r .place)))) ∷ ‵ (fbor κ (Body (mem (B κ′)) b o γ))
+      ∷ ‵ (flft κ q) ∷ (‵ (flft κ′ q′) ⊛ ‵ ftrue) ∷ ‵ (S.the-row .own (r .reading) (u ∷ [])) ∷ []) ∵
+      suffices ! _ (ends-at 𝓤 H A next.ended stayed (next.clauses 𝓤 H A at-mem run) W
+      (((κ, (κ′, tt)), (q, (q′, tt)), bounds, x, at), tt) u (r .reading) (h′ (r .place), tt) (tt, tt)) $
       says ! (reading-of (now (h .sheet)) (h .place) r e, refl, place-of (now (h .sheet)) (h .place) r e) $
-      move ! (2 ∷ 3 ∷ []) $ join ! $ frame ! $ feqI ! (List Val) (vptr b o ∷ []) (vptr b o ∷ []) refl $ fjoin3 ! $ nothing ! $ move ! (1 ∷ 0 ∷ []) $ fjoin ! $ done !
+      move ! (2 ∷ 3 ∷ []) $ join ! $ frame ! $ feqI ! (List Val) (vptr b o ∷ []) (vptr b o ∷ []) refl $
+      fjoin3 ! $ nothing ! $ move ! (1 ∷ 0 ∷ []) $ fjoin ! $ done !
 
   place-fits : (r : Next) (u : Val) → Is N.the-row r (u ∷ []) → r .place < 2 ^ 64
   place-fits r u is = LL.owed N.the-type N′.the-laws r _ is .1 .0 .1
@@ -166,44 +177,62 @@ module _ {M : Type 1} (𝓤 : URA M) (H : Heap 𝓤) (A : Atoms 𝓤) (W : Given
         qed W ((‵ (flft κ q) ⊛ ‵ (flft κ′ q′) ⊛ ‵ ftrue) ∷ ‵ (owns (MutRef (named 0) κ (B κ′) ∷ []) x at) ∷ []) ∵ enter ! C Λ code.function (vptr b o ∷ []) _ $
         alloc1 ! (λ l₀. alloc1 ! (λ l₁. alloc1 ! (λ l₂. alloc1 ! (λ l₃. alloc1 ! (λ l₄. alloc0 ! $ params1 ! $ pass1 ! (init ! 6 refl (tt, tt)) $ pass0 ! $
         move ! (11 ∷ []) $ fsplit ! $ fsplit3 ! $ drop ! $ move ! (13 ∷ []) $ split ! $ move ! (2 ∷ 3 ∷ 0 ∷ []) $
-        opens ! tt (B κ′) {h = h} b o (λ vs. spelt ! (B κ′) (Is (B κ′)) (shows 𝓤 H A (B κ′)) (LL.vals (T.the-type (α κ′)) (T′.the-laws (α κ′))) (LL.tells (T.the-type (α κ′)) (T′.the-laws (α κ′))) fullShare h vs b o $
+        opens ! tt (B κ′) {h = h} b o (λ vs. spelt ! (B κ′) (Is (B κ′)) (shows 𝓤 H A (B κ′))
+        (LL.vals (T.the-type (α κ′)) (T′.the-laws (α κ′))) (LL.tells (T.the-type (α κ′)) (T′.the-laws (α κ′))) fullShare h vs b o $
         use1 W (‵ (fat fullShare (T′.mir erased) b o (T′.lowered h))) (W .laws .raw-at fullShare (T′.mir erased) b o (T′.lowered h)) $
         move ! (1 ∷ []) $ peeks ! (B κ′) (Is (B κ′)) (shows 𝓤 H A (B κ′)) h (T′.lowered h ∷ []) (λ was. move ! (1 ∷ 0 ∷ []) $
         -- [the struct's cell; what a Reader owns; the open borrow; obs; auth; 'a's token; nothing; _4; …; _3; …; _2; …; _1; …; room for _0; …]
-        assigns ! (of-opd ! (load ! (from ! (hop ! (look ! 13 refl) (fld ! refl (stop !)))) (look-in ! 0 (sub ! 0 refl (whole !))))) (from ! (stop !)) (init ! 9 refl (tt, LL.lawful D L 𝓤 H A W .typed h _ was .0 .1 .0)) $
-        assigns ! (of-opd ! (load ! (from ! (hop ! (look ! 13 refl) (fld ! refl (stop !)))) (look-in ! 0 (sub ! 1 refl (whole !))))) (from ! (stop !)) (init ! 7 refl (tt, record { fits = was .1 .1 .1 .0 .1 })) $
+        assigns ! (of-opd ! (load ! (from ! (hop ! (look ! 13 refl) (fld ! refl (stop !)))) (look-in ! 0 (sub ! 0 refl (whole !)))))
+        (from ! (stop !)) (init ! 9 refl (tt, LL.lawful D L 𝓤 H A W .typed h _ was .0 .1 .0)) $
+        assigns ! (of-opd ! (load ! (from ! (hop ! (look ! 13 refl) (fld ! refl (stop !)))) (look-in ! 0 (sub ! 1 refl (whole !)))))
+        (from ! (stop !)) (init ! 7 refl (tt, record { fits = was .1 .1 .1 .0 .1 })) $
         move ! (1 ∷ 5 ∷ []) $ use2 W (raw (NextAt 𝓤 H A at-mem run .pre to) ⊛ ‵ Own) (apart (was .1 .1 .1 .0 .1)) $ split ! $
-        calls-at ! fm (NextAt 𝓤 H A at-mem run) known to (and-then ! (load ! (from ! (stop !)) (look ! 9 refl)) (and-then ! (load ! (from ! (stop !)) (look ! 7 refl)) (no-more !))) (λ u.
-        use1 W (later (some (λ (r : Next). ((‵ (flft κ′ q′) ⊛ ‵ ftrue) ⊛ ‵ (N.the-row .own r (u ∷ []))) ⊛ raw (ensured 𝓤 H A next-at.ended (next-at.clauses 𝓤 H A at-mem run) (κ′, tt) (h .sheet, (h .place, tt)) tt r)))) (id⊢ 𝓤 _) $ await ! tt $ pick ! (λ r.
+        calls-at ! fm (NextAt 𝓤 H A at-mem run) known to
+        (and-then ! (load ! (from ! (stop !)) (look ! 9 refl)) (and-then ! (load ! (from ! (stop !)) (look ! 7 refl)) (no-more !))) (λ u.
+        use1 W (later (some (λ (r : Next). ((‵ (flft κ′ q′) ⊛ ‵ ftrue) ⊛ ‵ (N.the-row .own r (u ∷ [])))
+        ⊛ raw (ensured 𝓤 H A next-at.ended (next-at.clauses 𝓤 H A at-mem run) (κ′, tt) (h .sheet, (h .place, tt)) tt r)))) (id⊢ 𝓤 _) $
+        await ! tt $ pick ! (λ r.
         split ! $ move ! (1 ∷ []) $ use1 W (raw (fact 𝓤 (r ≡ found))) (said r) $ heard ! (r ≡ found) (λ e. split ! $ move ! (1 ∷ []) $
-        -- [the result; 'a's token; what a Reader owns; the struct's cell; the open borrow; obs; auth; nothing; _4; …; _3; …; room for _2; …; _1; …; room for _0; …]
+        -- [the result; 'a's token; what a Reader owns; the struct's cell; the open borrow;
+        -- obs; auth; nothing; _4; …; _3; …; room for _2; …; _1; …; room for _0; …]
         peeks ! N.the-row (Is N.the-row) (shows 𝓤 H A N.the-row) r (u ∷ []) (λ is.
         land ! (from ! (stop !)) (init ! 12 refl (LL.lawful N.the-type N′.the-laws 𝓤 H A W .typed r _ is .0)) $
-        use1 W (given (u ∷ [] ≡ vstruct (spelled (N.the-type .parts) N′.the-laws (r .reading, (r .place, tt))) ∷ []) (‵ (all-own (N.the-type .parts) N′.the-laws (r .reading, (r .place, tt))))) (own-open 𝓤 H A W N.the-type N′.the-laws (r .reading, (r .place, tt)) u) $ learn ! (λ spells.
+        use1 W (given (u ∷ [] ≡ vstruct (spelled (N.the-type .parts) N′.the-laws (r .reading, (r .place, tt))) ∷ [])
+        (‵ (all-own (N.the-type .parts) N′.the-laws (r .reading, (r .place, tt)))))
+        (own-open 𝓤 H A W N.the-type N′.the-laws (r .reading, (r .place, tt)) u) $ learn ! (λ spells.
         rewrite ! 12 (λ (w : Val). ‵ (fat fullShare N′.mir l₂ 0 w)) (ap only spells) refl $ fsplit ! $
-        -- [what the reading owns; what the place owns; 'a's token; what a Reader owns; the struct's cell; the open borrow; obs; auth; nothing; _4; …; _3; …; _2; …; _1; …; room for _0; …]
-        assigns ! (of-opd ! (load ! (from ! (fld ! refl (stop !))) (look-in ! 13 (sub ! 1 refl (whole !))))) (from ! (hop ! (look ! 15 refl) (fld ! refl (stop !)))) (store-in ! 4 (sub ! 1 refl (whole !)) (tt, record { fits = place-fits r u is })) $
-        assigns ! (of-opd ! (load ! (from ! (fld ! refl (stop !))) (look-in ! 13 (sub ! 0 refl (whole !))))) (from ! (stop !)) (init ! 17 refl (EL.lawful S.the-type S′.the-laws 𝓤 H A W tt .typed (r .reading) _ (LL.owed N.the-type N′.the-laws r _ is .0) .0)) $
+        -- [what the reading owns; what the place owns; 'a's token; what a Reader owns; the struct's
+        -- cell; the open borrow; obs; auth; nothing; _4; …; _3; …; _2; …; _1; …; room for _0; …]
+        assigns ! (of-opd ! (load ! (from ! (fld ! refl (stop !))) (look-in ! 13 (sub ! 1 refl (whole !)))))
+        (from ! (hop ! (look ! 15 refl) (fld ! refl (stop !)))) (store-in ! 4 (sub ! 1 refl (whole !)) (tt, record { fits = place-fits r u is })) $
+        assigns ! (of-opd ! (load ! (from ! (fld ! refl (stop !))) (look-in ! 13 (sub ! 0 refl (whole !))))) (from ! (stop !))
+        (init ! 17 refl (EL.lawful S.the-type S′.the-laws 𝓤 H A W tt .typed (r .reading) _ (LL.owed N.the-type N′.the-laws r _ is .0) .0)) $
         -- the struct is put together again, at the new place, and the borrow is closed
-        move ! (4 ∷ []) $ use1 W (‵ (cellAt fullShare (B κ′ .mir) (T′.lowered (h′ (r .place)) ∷ []) b o)) (W .laws .at-raw fullShare (T′.mir erased) b o (T′.lowered (h′ (r .place)))) $
+        move ! (4 ∷ []) $ use1 W (‵ (cellAt fullShare (B κ′ .mir) (T′.lowered (h′ (r .place)) ∷ []) b o))
+        (W .laws .at-raw fullShare (T′.mir erased) b o (T′.lowered (h′ (r .place)))) $
         move ! (4 ∷ []) $ use1 W (‵ (B κ′ .own (h′ (r .place)) (T′.lowered (h′ (r .place)) ∷ []))) (again (r .place) (place-fits r u is)) $
         move ! (1 ∷ 0 ∷ 5 ∷ 6 ∷ 7 ∷ []) $ closes ! tt (B κ′) (h′ (r .place)) (T′.lowered (h′ (r .place)) ∷ []) b o $
         -- [obs; the borrow; the outer token; what the reading owns; what the place owns; 'a's token; nothing; _4; …; _3; …; _2; …; _1; …; _0; …]
         returns ! (look ! 15 refl) $ forget ! 7 refl $ forget ! 9 refl $ forget ! 11 refl $ forget ! 13 refl $ forget ! 15 refl $
-        move ! (15 ∷ 16 ∷ []) $ free1 ! $ move ! (13 ∷ 14 ∷ []) $ free1 ! $ move ! (11 ∷ 12 ∷ []) $ free1 ! $ move ! (9 ∷ 10 ∷ []) $ free1 ! $ move ! (7 ∷ 8 ∷ []) $ free1 ! $ free0 ! $
+        move ! (15 ∷ 16 ∷ []) $ free1 ! $ move ! (13 ∷ 14 ∷ []) $ free1 ! $ move ! (11 ∷ 12 ∷ []) $
+        free1 ! $ move ! (9 ∷ 10 ∷ []) $ free1 ! $ move ! (7 ∷ 8 ∷ []) $ free1 ! $ free0 ! $
         keep ! (0 ∷ 1 ∷ 2 ∷ 5 ∷ 3 ∷ []) $ by ! (exits r _ e)))))))))))))
 
 module _ {M : Type 1} (𝓤 : URA M) (H : Heap 𝓤) (A : Atoms 𝓤) (W : Given 𝓤 H A) (mem : Memory → SProp 𝓤) (run : Routine → Fun 𝓤) where
   next-walks : (C : Calls 𝓤 H) (Λ : Loops 𝓤 H) → FmC 𝓤 H (W .laws) C → Triple 𝓤 (C #reader·next-at) (NextAt 𝓤 H A mem run)
       → Walks 𝓤 H A next.ended stayed (WpFn 𝓤 H C Λ code.function) (next.clauses 𝓤 H A mem run)
-  next-walks C Λ fm known = walked 𝓤 H A next.ended stayed (next.clauses 𝓤 H A mem run) (WpFn 𝓤 H C Λ code.function) (λ κs. (ptr-vals, tt)) (λ κs. (mut-tells (named 0) (κs .0) (B (κs .1 .0)), tt))
-      (λ κs qs bounds a g are. via 𝓤 _ (fst∗ 𝓤 _ (emp 𝓤)) (walk 𝓤 H A W mem run (κs .0) (κs .1 .0) (qs .0) (qs .1 .0) bounds (a .0 .ptr .0) (a .0 .ptr .1) (a .0 .name) (a .0 .now) C Λ fm known))
+  next-walks C Λ fm known =
+      walked 𝓤 H A next.ended stayed
+      (next.clauses 𝓤 H A mem run) (WpFn 𝓤 H C Λ code.function) (λ κs. (ptr-vals, tt)) (λ κs. (mut-tells (named 0) (κs .0) (B (κs .1 .0)), tt))
+      (λ κs qs bounds a g are. via 𝓤 _ (fst∗ 𝓤 _ (emp 𝓤))
+      (walk 𝓤 H A W mem run (κs .0) (κs .1 .0) (qs .0) (qs .1 .0) bounds (a .0 .ptr .0) (a .0 .ptr .1) (a .0 .name) (a .0 .now) C Λ fm known))
 
 next-meets : {M : Type 1} (𝓤 : URA M) (H : Heap 𝓤) (A : Atoms 𝓤) (W : Given 𝓤 H A) (mem : Memory → SProp 𝓤) (run : Routine → Fun 𝓤) (𝓣 : Tables 𝓤 H)
     → Triple 𝓤 (𝓣 .C #reader·next-at) (NextAt 𝓤 H A mem run)
     → Meets 𝓤 H A next.signature (WpFn 𝓤 H (𝓣 .C) (𝓣 .Λ) code.function) (next.spec 𝓤 H A mem run)
 next-meets 𝓤 H A W mem run 𝓣 known =
-    walk-meets 𝓤 H A next.ended stayed W (goes-ref 𝓤 H A W 2 0 tt behind, tt) (next.clauses 𝓤 H A mem run) (WpFn 𝓤 H (𝓣 .C) (𝓣 .Λ) code.function) (WpFn-mono 𝓤 H (W .laws) 𝓣 code.function)
+    walk-meets 𝓤 H A next.ended stayed W
+    (goes-ref 𝓤 H A W 2 0 tt behind, tt) (next.clauses 𝓤 H A mem run) (WpFn 𝓤 H (𝓣 .C) (𝓣 .Λ) code.function) (WpFn-mono 𝓤 H (W .laws) 𝓣 code.function)
     (next-walks 𝓤 H A W mem run (𝓣 .C) (𝓣 .Λ) (fmOf 𝓤 H (W .laws) 𝓣) known)
 
 pub next-spec : {M : Type 1} → stated.statement M

@@ -1,0 +1,24 @@
+-- Believed: document 01's limits.
+use Prim.Native.Nat.{ℕ}
+
+-- N is at most this
+abbrev pub mostAtoms : ℕ
+mostAtoms = 512
+
+-- literal codes of so many atoms
+abbrev pub mostCodes : ℕ
+mostCodes = 1024
+
+-- of a table
+abbrev pub mostWords : ℕ
+mostWords = 8192
+
+-- groups of a rule, and literals of a group
+abbrev pub mostInBody : ℕ
+mostInBody = 64
+
+abbrev pub mostNameBytes : ℕ
+mostNameBytes = 24
+
+abbrev pub mostSheetBytes : ℕ
+mostSheetBytes = 65536

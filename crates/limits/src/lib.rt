@@ -1,0 +1,13 @@
+// Document 01's limits, as code writes them, by the names of specs/Limits.antt.
+pub const MOST_ATOMS: usize = 512;
+
+// The same, for an N that a caller hands over.
+pub const MOST_N: u64 = MOST_ATOMS as u64;
+
+pub const MOST_WORDS: usize = 8192;
+
+pub const MOST_IN_BODY: usize = 64;
+
+pub const MOST_NAME_BYTES: usize = 24;
+
+pub const MOST_SHEET_BYTES: usize = 65536;

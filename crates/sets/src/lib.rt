@@ -1,0 +1,1 @@
+// Sets of numbers: no code, only what proofs speak of.
