@@ -38,7 +38,7 @@ static void limits(void) {
 
 static void refusals(void) {
     uint32_t i, j;
-    check(ROWS == 20 && SIMMERKNOT_LAST_REFUSAL == 20, "twenty numbers");
+    check(ROWS > 0 && (int)SIMMERKNOT_LAST_REFUSAL == (int)ROWS, "the last number is the list's length");
     for (i = 0; i < ROWS; i++) {
         check(rows[i].number == i + 1, "numbers in order");
         check(rows[i].constant == (int)(i + 1), "a constant is its number");

@@ -1,4 +1,4 @@
-/* Faults at the boundary that boundary.c must notice, by -DFAULT=1 to 13, laid around the real calls by the linker (--wrap). The last
+/* Faults at the boundary that boundary.c must notice, by -DFAULT=NUMBER, laid around the real calls by the linker (--wrap). The last
  * three show only where what is lent is undefined, under valgrind. */
 #include <simmerknot.h>
 #include <string.h>

@@ -61,9 +61,9 @@ impl<T: Fill> Guarded<T> {
 
     /// Stops at a guard that was altered.
     pub fn check(&self) {
-        for (i, &now) in self.all.iter().enumerate() {
-            let inside = self.before <= i && i < self.before + self.length;
-            assert!(inside || now == T::fill(i), "guard {i} of a row at {} of length {} was altered", self.before, self.length);
+        let behind = self.before + self.length;
+        for i in (0..self.before).chain(behind..self.all.len()) {
+            assert!(self.all[i] == T::fill(i), "guard {i} of a row at {} of length {} was altered", self.before, self.length);
         }
     }
 }

@@ -52,7 +52,7 @@ mod evaluate {
     fn random_and_damaged_tables() {
         let mut chance = Chance::new(0x4057);
         let mut tally = Tally::default();
-        for _ in 0..cases(120_000) {
+        for _ in 0..cases(60_000) {
             let (n, words) = random::any_table(&mut chance);
             let mut table = table_bytes(&words);
             if chance.one_in(8) {
@@ -68,7 +68,7 @@ mod evaluate {
     fn small_tables() {
         let mut chance = Chance::new(0x4058);
         let mut tally = Tally::default();
-        for _ in 0..cases(2_000_000) {
+        for _ in 0..cases(1_200_000) {
             let (n, words) = random::small_table(&mut chance, 6);
             let mut table = table_bytes(&words);
             match chance.below(12) {
@@ -246,7 +246,7 @@ mod sheet {
     fn sheets_grown_from_the_grammar_and_damaged() {
         let mut chance = Chance::new(0x5ee7);
         let mut tally = Tally::default();
-        for _ in 0..cases(36_000) {
+        for _ in 0..cases(24_000) {
             let sheet = random::any_sheet(&mut chance);
             let lent = buffers(&mut chance, &sheet);
             compare(&sheet, &lent, chance.of(&BEFORE), &mut tally);
@@ -258,7 +258,7 @@ mod sheet {
     fn sheets_damaged_in_each_way() {
         let mut chance = Chance::new(0x5ee8);
         let mut tally = Tally::default();
-        for _ in 0..cases(1_500) {
+        for _ in 0..cases(1_000) {
             for damage in SHEET_DAMAGES {
                 let sheet = random::damaged_sheet(&mut chance, damage);
                 compare(&sheet, &full(20_000), chance.of(&BEFORE), &mut tally);

@@ -43,7 +43,7 @@ fn compare(sheet: &[u8], words: &[u16], names: &[u32], text: &[u8], tally: &mut 
 fn sheets_grown_from_the_grammar_and_damaged() {
     let mut chance = Chance::new(0x5ea1);
     let mut tally = Tally::default();
-    for _ in 0..cases(30_000) {
+    for _ in 0..cases(20_000) {
         let sheet = random::any_sheet(&mut chance);
         let (words, names) = (random::word_buffer(&mut chance), random::name_buffer(&mut chance));
         let needed = 10 + 30 * chance.index(12);

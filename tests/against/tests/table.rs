@@ -32,7 +32,7 @@ fn edges(n: u64) -> [u16; 12] {
 fn random_and_damaged_tables() {
     let mut chance = Chance::new(0x7ab1e);
     let mut tally = Tally::default();
-    for _ in 0..cases(200_000) {
+    for _ in 0..cases(100_000) {
         let (n, words) = random::any_table(&mut chance);
         let lent = Guarded::new(&words, 3);
         compare(n, lent.row(), &mut tally);

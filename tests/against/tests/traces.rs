@@ -46,7 +46,7 @@ const RECORDS: [&str; 8] =
 #[test]
 fn one_small_table() {
     let plan = Plan { table: |chance| random::small_table(chance, 6), tables: 1, damaged: 0, forged: 0, steps: 60 };
-    let tally = replay(1 << 40, cases(120_000), plan);
+    let tally = replay(1 << 40, cases(60_000), plan);
     // After a fresh record for another N, literals may be too high.
     tally.expect(&[&ACCEPTED[..], &PLAIN_REFUSALS, &AFTER_FRESH].concat(), cases(1_000));
 }
@@ -75,7 +75,7 @@ fn middling_tables() {
 #[test]
 fn large_tables() {
     let plan = Plan { table: random::large_table, tables: 2, damaged: 10, forged: 30, steps: 60 };
-    let tally = replay(5 << 40, cases(2_000), plan);
+    let tally = replay(5 << 40, cases(1_000), plan);
     tally.expect(&[&ACCEPTED[..], &PLAIN_REFUSALS, &WORDS, &RECORDS].concat(), cases(5));
 }
 

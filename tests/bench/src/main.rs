@@ -8,13 +8,13 @@
 
 mod reading;
 mod turns;
+mod yardstick;
 
 use std::array::from_fn;
 use std::hint::black_box;
 
 use second::random::table_bytes;
 use second::tables::MEASURED;
-use second::yardstick;
 
 use crate::turns::timed;
 

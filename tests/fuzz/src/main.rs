@@ -1,7 +1,7 @@
-//! `fuzz SECONDS SEED [TARGET CASE]`: a third of the time for each of evaluation, the sheet entry and the program, and at least a
+//! `fuzz SECONDS SEED [TARGET [CASE]]`: a third of the time for each of evaluation, the sheet entry and the program, and at least a
 //! thousand cases, so that a slow machine meets every outcome too.
 //!
-//! The program is target/bin/simmer, or what SIMMER names. With a target and the number of a case, that case alone. Status 1 at the
+//! The program is target/bin/simmer, or what SIMMER names. With a target, that one alone; with the number of a case, that case alone. Status 1 at the
 //! first case on which the two sides part, or where the engine left its buffers.
 
 use std::ffi::c_int;
@@ -51,7 +51,7 @@ extern "C" fn crashed(_signal: c_int) {
 }
 
 fn usage() -> ! {
-    eprintln!("fuzz SECONDS SEED [evaluate|sheet|program CASE]");
+    eprintln!("fuzz SECONDS SEED [evaluate|sheet|program [CASE]]");
     exit(2)
 }
 
@@ -82,31 +82,35 @@ fn main() {
             let byte = if which == "behind" { lent.wrapping_add(3) } else { lent.wrapping_sub(1) };
             println!("{}", unsafe { byte.read_volatile() });
         }
-        [seconds, seed] => timed(number(seconds), number(seed)),
+        [seconds, seed] => all().into_iter().for_each(|target| timed(number(seconds), number(seed), target)),
+        [seconds, seed, name] => timed(number(seconds), number(seed), named(name)),
         [_, seed, name, case] => alone(number(seed), name, number(case)),
         _ => usage(),
     }
 }
 
-fn timed(seconds: u64, seed: u64) {
+/// The target of that name.
+fn named(name: &str) -> Target {
+    all().into_iter().find(|target| target.name == name).unwrap_or_else(|| usage())
+}
+
+fn timed(seconds: u64, seed: u64, mut target: Target) {
     SEED.store(seed, Ordering::Relaxed);
-    for mut target in all() {
-        let started = Instant::now();
-        let share = Duration::from_millis(seconds * 1000 / 3);
-        match run(&mut target, seed, |number| number < LEAST || started.elapsed() < share) {
-            Ok(tally) => {
-                println!("{}: {} cases, {tally:?}", target.name, tally.total());
-                for kind in target.kinds {
-                    if tally.times(kind) == 0 {
-                        println!("{}: '{kind}' was not met; a longer run is needed", target.name);
-                        exit(1);
-                    }
+    let started = Instant::now();
+    let share = Duration::from_millis(seconds * 1000 / 3);
+    match run(&mut target, seed, |number| number < LEAST || started.elapsed() < share) {
+        Ok(tally) => {
+            println!("{}: {} cases, {tally:?}", target.name, tally.total());
+            for kind in target.kinds {
+                if tally.times(kind) == 0 {
+                    println!("{}: '{kind}' was not met; a longer run is needed", target.name);
+                    exit(1);
                 }
             }
-            Err(parting) => {
-                println!("{}: seed {seed}, {}", target.name, parting.said());
-                exit(1);
-            }
+        }
+        Err(parting) => {
+            println!("{}: seed {seed}, {}", target.name, parting.said());
+            exit(1);
         }
     }
 }
@@ -114,7 +118,7 @@ fn timed(seconds: u64, seed: u64) {
 fn alone(seed: u64, name: &str, number: u64) {
     SEED.store(seed, Ordering::Relaxed);
     RUNNING.store(number, Ordering::Relaxed);
-    let Some(mut target) = all().into_iter().find(|target| target.name == name) else { usage() };
+    let mut target = named(name);
     let case = drawn(&target, seed, number);
     println!("N {}, input \"{}\"", case.n, case.bytes.escape_ascii());
     let second = (target.second)(&case);

@@ -5,8 +5,8 @@
 //! evaluation), `marking` (the mark record and picks), `reader` and `sheet` (rule sheet and value sheet), `program`
 //! and `host`.
 //!
-//! Beside them: `judge` (Definitions 5, 6, 8 and 9 by brute force), `random` (seeded generators), `tables` (P1 to P12
-//! and the tables to measure on) and `yardstick` (two evaluators that serve only to compare speed).
+//! Beside them: `judge` (Definitions 5, 6, 8 and 9 by brute force), `random` (seeded generators) and `tables` (P1 to P12
+//! and the tables to measure on).
 
 pub mod host;
 pub mod judge;
@@ -20,4 +20,3 @@ pub mod sheet;
 pub mod table;
 pub mod tables;
 pub mod truth;
-pub mod yardstick;

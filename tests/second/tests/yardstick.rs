@@ -1,9 +1,13 @@
-//! The evaluators that serve to compare speed answer as evaluation does.
+//! The evaluators of tests/bench that serve to compare speed answer as evaluation does. The benchmarks link the engine; these need not.
 
 use second::model::evaluate;
 use second::random::{self, Chance};
 use second::tables::MEASURED;
-use second::yardstick::{check, counters, plain};
+
+#[path = "../../bench/src/yardstick.rs"]
+mod yardstick;
+
+use yardstick::{check, counters, plain};
 
 #[test]
 fn on_the_tables_to_measure_on() {

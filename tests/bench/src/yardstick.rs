@@ -1,4 +1,4 @@
-//! Two evaluators that serve only to compare speed; both answer as `model::evaluate` does.
+//! Two evaluators that serve only to compare speed; both answer as `second::model::evaluate` does.
 //!
 //! `plain` rereads the words: each round derives Held (kept from the round before) and Clean (from nothing) by passes over
 //! the table until nothing changes, and marks every atom that can be marked.
@@ -7,8 +7,8 @@
 //! missing. A literal that arrives lowers the counts of its groups, and a group at zero gives its head. Held's counts are
 //! kept across rounds; Clean starts again from a copy of the full counts.
 
-use crate::refusal::*;
-use crate::truth::{F, I, T, U};
+use second::refusal::*;
+use second::truth::{F, I, T, U};
 
 /// A set of literals: bit l mod 64 of word l div 64.
 type Bits = [u64; 16];
