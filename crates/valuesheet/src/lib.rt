@@ -143,10 +143,7 @@ pub fn print(
 {
     let needed = bytes_needed(names, n, heads);
     if text.len() < needed {
-        return Printed::Refused(Refusal {
-            number: refusal::TEXT_ROOM_TOO_SMALL,
-            place: needed as u64,
-        });
+        return Printed::Refused(refusal::at(refusal::TEXT_ROOM_TOO_SMALL, needed));
     }
     put_lines(sheet, names, n, heads, values, text);
     Printed::Whole(needed)

@@ -10,14 +10,17 @@ use Rattle.valuesheet.proofs.print.Tie as tie
 bytes-needed-requires : tie.Need-bytes-needed-requires
 bytes-needed-requires c κs = search needs
 
+at-requires : tie.Need-at-requires
+at-requires c κs = search needs
+
 returns : tie.Need-returns
 returns c =
-    let entry = c .before .before .before .before .before .before .before in
+    let entry = c .before .before .before .before .before .before .before .before in
     let out = valueSheet (entry .args .sheet .now) (member (entry .args .heads .now))
     (λ x. getD (entry .args .values .now) x 0) (take (entry .args .n) (entry .args .names .now)) in
-    does-not-fit out _ _ (c .before .bytes-needed .ensures
+    rw (c .at .ensures) (does-not-fit out _ _ (c .before .before .bytes-needed .ensures
     ∙ sym (lines-length (entry .args .sheet .now) (member (entry .args .heads .now)) (λ x. getD (entry .args .values .now) x 0) 0
-    (take (entry .args .n) (entry .args .names .now)))) (c .if1 .taken)
+    (take (entry .args .n) (entry .args .names .now)))) (c .before .if1 .taken))
 
 put-lines-requires : tie.Need-put-lines-requires
 put-lines-requires c κs = search needs
@@ -38,4 +41,4 @@ returns-2 c =
 
 pub print-spec : {M : Type 1} → statement M
 print-spec =
-    tie.close (tie.spec bytes-needed-requires returns put-lines-requires same-length returns-2)
+    tie.close (tie.spec bytes-needed-requires at-requires returns put-lines-requires same-length returns-2)
