@@ -130,7 +130,8 @@ unfolding trailingZeros
 lowest-bit zero n h ne = absurd (ne (lt-one h))
 lowest-bit (suc k) n h ne = by (n % 2) refl (lowest-bit k (n / 2) (omega (arith, pow-suc 2 k)))
   where
-    by : (d : ℕ) → n % 2 ≡ d → (n / 2 ≢ 0 → LowestBit k (n / 2) (trailingZeros k (n / 2))) → LowestBit (suc k) n (under d (trailingZeros k (n / 2)))
+    by : (d : ℕ) → n % 2 ≡ d → (n / 2 ≢ 0 → LowestBit k (n / 2) (trailingZeros k (n / 2)))
+        → LowestBit (suc k) n (under d (trailingZeros k (n / 2)))
     by zero e rest =
         let up = rest (λ z. ne (omega arith)) in
         record {

@@ -47,7 +47,8 @@ member-in-word s w j h =
     ap₂ (λ (x y : ℕ). bit (getD s x 0) y) q r
 
 -- a change of one word by an operation on bits: `on` says what it does to a bit, and leaves it where the other bit is not set
-module _ (f : ℕ → ℕ → ℕ) (on : Bool → Bool → Bool) (bits : (a b j : ℕ) → bit (f a b) j ≡ on (bit a j) (bit b j)) (keeps : (x : Bool) → on x false ≡ x) where
+module _ (f : ℕ → ℕ → ℕ) (on : Bool → Bool → Bool)
+    (bits : (a b j : ℕ) → bit (f a b) j ≡ on (bit a j) (bit b j)) (keeps : (x : Bool) → on x false ≡ x) where
   pub member-changed-same : (s : List ℕ) (i : ℕ) → i < 64 * length s → member (changed f s i) i ≡ on (member s i) true
   unfolding member changed
   member-changed-same s i h =

@@ -109,12 +109,14 @@ pub fresh-refused : (N : ℕ) {answer : Checked} {r : MarkRecord} → leb N 512 
     → FreshAllows N answer r → (answer ≡ Checked.Refused too-many-atoms) × (r ≡ noMarksFor 0)
 fresh-refused N e o = records.fresh-determined N o (FreshAllows.refused e)
 
-pub fresh-accepted : (N : ℕ) {answer : Checked} {r : MarkRecord} → leb N 512 ≡ true → FreshAllows N answer r → (answer ≡ Checked.Accepted) × (r ≡ noMarksFor N)
+pub fresh-accepted : (N : ℕ) {answer : Checked} {r : MarkRecord} → leb N 512 ≡ true
+    → FreshAllows N answer r → (answer ≡ Checked.Accepted) × (r ≡ noMarksFor N)
 fresh-accepted N e o = records.fresh-determined N o (FreshAllows.fresh e)
 
 module _ (r : MarkRecord) (t : List ℕ) where
   -- pick: 1, 17, 2, words, 16; a refusal alters nothing
-  pub pick-determined : (a : ℕ) {x y : PickAnswer} {r′ r″ : MarkRecord} → PickAllows r t a x r′ → PickAllows r t a y r″ → (x ≡ y) × (r′ ≡ r″)
+  pub pick-determined : (a : ℕ) {x y : PickAnswer} {r′ r″ : MarkRecord}
+      → PickAllows r t a x r′ → PickAllows r t a y r″ → (x ≡ y) × (r′ ≡ r″)
   pick-determined a o o′ = picks.pick-determined r t a o o′
 
   pub pick-refused : (a : ℕ) {f : Refusal} {answer : PickAnswer} {r′ : MarkRecord} → pickFault r t a ≡ Refused f → PickAllows r t a answer r′
@@ -126,7 +128,8 @@ module _ (r : MarkRecord) (t : List ℕ) where
       → (answer ≡ PickAnswer.Marked) × (r′ ≡ withMarks r (putIn (r .marks) a))
   pick-marks a e c o = picks.pick-determined r t a o (PickAllows.marked e c)
 
-  pub pick-finds-it-marked : (a : ℕ) {answer : PickAnswer} {r′ : MarkRecord} → pickFault r t a ≡ Accepted → Marked (marksOf r) a → PickAllows r t a answer r′
+  pub pick-finds-it-marked : (a : ℕ) {answer : PickAnswer} {r′ : MarkRecord}
+      → pickFault r t a ≡ Accepted → Marked (marksOf r) a → PickAllows r t a answer r′
       → (answer ≡ PickAnswer.AlreadyMarked) × (r′ ≡ r)
   pick-finds-it-marked a e m o = picks.pick-determined r t a o (PickAllows.already-marked e m)
 
@@ -141,10 +144,12 @@ module _ (r : MarkRecord) (t : List ℕ) where
   pub settled-refused : {f : Refusal} {answer : Decided} → settledFault r t ≡ Refused f → SettledAllows r t answer → answer ≡ Decided.Refused f
   settled-refused e o = picks.settled-determined r t o (SettledAllows.refused e)
 
-  pub settled-yes : {answer : Decided} → settledFault r t ≡ Accepted → Settled (rulesOf t) (marksOf r) → SettledAllows r t answer → answer ≡ Decided.Yes
+  pub settled-yes : {answer : Decided} → settledFault r t ≡ Accepted
+      → Settled (rulesOf t) (marksOf r) → SettledAllows r t answer → answer ≡ Decided.Yes
   settled-yes e s o = picks.settled-determined r t o (SettledAllows.answers-yes e s)
 
-  pub settled-no : {answer : Decided} → settledFault r t ≡ Accepted → (Settled (rulesOf t) (marksOf r) → ⊥) → SettledAllows r t answer → answer ≡ Decided.No
+  pub settled-no : {answer : Decided} → settledFault r t ≡ Accepted
+      → (Settled (rulesOf t) (marksOf r) → ⊥) → SettledAllows r t answer → answer ≡ Decided.No
   settled-no e n o = picks.settled-determined r t o (SettledAllows.answers-no e n)
 
   -- report: 1, 17, 2, 3, words, 18; a refusal alters nothing
@@ -160,7 +165,8 @@ module _ (r : MarkRecord) (t : List ℕ) where
       → (Settled (rulesOf t) (marksOf r) → ⊥) → ReportAllows r t room answer room′ → (answer ≡ Checked.Refused not-settled) × (room′ ≡ room)
   report-before-settled room e n o = picks.report-determined r t room o (ReportAllows.before-settled e n)
 
-  pub report-of-any-marks : (room : List ℕ) {answer : Checked} {room′ : List ℕ} → reportFault r t (length room) ≡ Accepted → Settled (rulesOf t) (marksOf r)
+  pub report-of-any-marks : (room : List ℕ) {answer : Checked} {room′ : List ℕ}
+      → reportFault r t (length room) ≡ Accepted → Settled (rulesOf t) (marksOf r)
       → (H : Interpretation) → IsHeld (rulesOf t) (marksOf r) H → ReportAllows r t room answer room′
       → (answer ≡ Checked.Accepted) × (room′ ≡ written (settledValue (marksOf r) H) (r .n) room)
   report-of-any-marks room e s H h o = picks.report-determined r t room o (ReportAllows.reported e s H h)
@@ -169,7 +175,8 @@ module _ (r : MarkRecord) (t : List ℕ) where
 pub count-determined : (r : MarkRecord) {x y : Numbered} → CountAllows r x → CountAllows r y → x ≡ y
 count-determined r o o′ = records.count-determined r o o′
 
-pub count-refused : (r : MarkRecord) {f : Refusal} {answer : Numbered} → recordFault r ≡ Refused f → CountAllows r answer → answer ≡ Numbered.Refused f
+pub count-refused : (r : MarkRecord) {f : Refusal} {answer : Numbered}
+    → recordFault r ≡ Refused f → CountAllows r answer → answer ≡ Numbered.Refused f
 count-refused r e o = records.count-determined r o (CountAllows.refused e)
 
 pub count-counts : (r : MarkRecord) {answer : Numbered} → recordFault r ≡ Accepted
@@ -233,23 +240,27 @@ module _ (s : List ℕ) (wordRoom nameRoom : ℕ) (text : List ℕ) where
   sheet-refused e o = sheet-determined s wordRoom nameRoom text o (SheetAllows.refused e)
 
 -- the host's sheet entry: the same over bytes, surplus bytes as they were
-pub host-sheet-allows-one : (s words names text : List ℕ) {x y : ℕ} {ws ws′ ns ns′ text′ text″ : List ℕ} → HostSheet s words names text x ws ns text′
+pub host-sheet-allows-one : (s words names text : List ℕ) {x y : ℕ} {ws ws′ ns ns′ text′ text″ : List ℕ}
+    → HostSheet s words names text x ws ns text′
     → HostSheet s words names text y ws′ ns′ text″ → (x ≡ y) × (ws ≡ ws′) × (ns ≡ ns′) × (text′ ≡ text″)
 host-sheet-allows-one s words names text o o′ = host-sheet-determined s words names text o o′
 
 pub host-sheet-refused : (s words names text : List ℕ) {f : Refusal} {answer : ℕ} {ws ns text′ : List ℕ}
     → sheetOutcome s (length words / 2) (length names / 4) ≡ sheet.refused f
     → HostSheet s words names text answer ws ns text′
-    → (answer ≡ packed f) × (ws ≡ wordsOver (padded (length words / 2) []) words) × (ns ≡ namesOver (padded (length names / 4) []) names) × (text′ ≡ text)
+    → (answer ≡ packed f) × (ws ≡ wordsOver (padded (length words / 2) []) words)
+    × (ns ≡ namesOver (padded (length names / 4) []) names) × (text′ ≡ text)
 host-sheet-refused s words names text e o = host-sheet-determined s words names text o (HostSheet.answered (SheetAllows.refused e))
 
 -- so an answer tells its cause: the length of the value sheet, if the sheet is accepted and it fits, else the fault that the order finds, 15 last
 pub host-sheet-tells : (s words names text : List ℕ) {answer : ℕ} {ws ns text′ : List ℕ} → HostSheet s words names text answer ws ns text′
-    → ((x : Sofar) × (I : Interpretation) × (sheetOutcome s (length words / 2) (length names / 4) ≡ sheet.accepted x) × SmallestWellSupported (x .rules) I
+    → ((x : Sofar) × (I : Interpretation) × (sheetOutcome s (length words / 2) (length names / 4) ≡ sheet.accepted x)
+    × SmallestWellSupported (x .rules) I
     × (length (sheetOf s x I) ≤ length text) × (answer ≡ length (sheetOf s x I)) × (answer < 4294967296))
     ⊎ ((f : Refusal)
     × ((sheetOutcome s (length words / 2) (length names / 4) ≡ sheet.refused f)
-    ⊎ ((x : Sofar) × (I : Interpretation) × (sheetOutcome s (length words / 2) (length names / 4) ≡ sheet.accepted x) × SmallestWellSupported (x .rules) I
+    ⊎ ((x : Sofar) × (I : Interpretation) × (sheetOutcome s (length words / 2) (length names / 4) ≡ sheet.accepted x)
+    × SmallestWellSupported (x .rules) I
     × (length text < length (sheetOf s x I)) × (f ≡ text-room-too-small (length (sheetOf s x I)))))
     × (answer ≡ packed f) × (1 ≤ f .number) × (f .place < 4294967296))
 host-sheet-tells = answer-tells
@@ -266,13 +277,15 @@ model-exists N t accepted =
 -- evaluation writes the codes of the values, and no byte past them
 pub evaluation-values : (N : ℕ) (t room : List ℕ) {answer : Checked} {room′ : List ℕ}
     → evaluationFault N t (length room) ≡ Accepted → EvaluationAllows N t room answer room′
-    → (I : Interpretation) → SmallestWellSupported (rulesOf t) I → (answer ≡ Checked.Accepted) × (room′ ≡ written (λ a. value I (positive a)) N room)
+    → (I : Interpretation) → SmallestWellSupported (rulesOf t) I
+    → (answer ≡ Checked.Accepted) × (room′ ≡ written (λ a. value I (positive a)) N room)
 evaluation-values N t room e o I i =
     let one = accepted-one-rule N t (evaluated.evaluation-accepted N t (length room) e .1) in
     evaluation-determined N t room o (EvaluationAllows.evaluated e I (smallest-by-test (rulesOf t) one I .1 i))
 
 -- and so does the host's
-pub host-evaluation-values : (N : ℕ) (bytes room : List ℕ) {answer : ℕ} {room′ : List ℕ} → hostFault N (wordsIn bytes) (loneByte bytes) (length room) ≡ Accepted
+pub host-evaluation-values : (N : ℕ) (bytes room : List ℕ) {answer : ℕ} {room′ : List ℕ}
+    → hostFault N (wordsIn bytes) (loneByte bytes) (length room) ≡ Accepted
     → HostEvaluation N bytes room answer room′ → (I : Interpretation) → SmallestWellSupported (rulesOf (wordsIn bytes)) I
     → (answer ≡ 0) × (room′ ≡ written (λ a. value I (positive a)) N room)
 host-evaluation-values N bytes room e o I i =
@@ -298,7 +311,8 @@ module _ (s : List ℕ) (wordRoom nameRoom : ℕ) (text : List ℕ) (x : Sofar) 
     -- .. or 15, where it does not fit
     pub sheet-does-not-fit : {answer : SheetAnswer} {ws ns text′ : List ℕ}
         → length text < length (sheetOf s x I) → SheetAllows s wordRoom nameRoom text answer ws ns text′
-        → (answer ≡ SheetAnswer.Refused (text-room-too-small (length (sheetOf s x I)))) × (ws ≡ padded wordRoom []) × (ns ≡ padded nameRoom []) × (text′ ≡ text)
+        → (answer ≡ SheetAnswer.Refused (text-room-too-small (length (sheetOf s x I))))
+        × (ws ≡ padded wordRoom []) × (ns ≡ padded nameRoom []) × (text′ ≡ text)
     sheet-does-not-fit h o =
         sheet-determined s wordRoom nameRoom text o
         (SheetAllows.does-not-fit read (smallest-by-test (x .rules) (sheet-one-rule s wordRoom nameRoom x read) I .1 smallest) h)
@@ -306,14 +320,16 @@ module _ (s : List ℕ) (wordRoom nameRoom : ℕ) (text : List ℕ) (x : Sofar) 
 -- and so does the host's, over bytes
 module _ (s words names text : List ℕ) (x : Sofar) (read : sheetOutcome s (length words / 2) (length names / 4) ≡ sheet.accepted x)
     (I : Interpretation) (smallest : SmallestWellSupported (x .rules) I) where
-  pub host-sheet-values : {answer : ℕ} {ws ns text′ : List ℕ} → length (sheetOf s x I) ≤ length text → HostSheet s words names text answer ws ns text′
+  pub host-sheet-values : {answer : ℕ} {ws ns text′ : List ℕ}
+      → length (sheetOf s x I) ≤ length text → HostSheet s words names text answer ws ns text′
       → (answer ≡ length (sheetOf s x I)) × (ws ≡ wordsOver (padded (length words / 2) (wordsOf (x .rules))) words)
       × (ns ≡ namesOver (padded (length names / 4) (x .names)) names) × (text′ ≡ sheetOf s x I ++ drop (length (sheetOf s x I)) text)
   host-sheet-values h o =
       let one = sheet-one-rule s (length words / 2) (length names / 4) x read in
       host-sheet-determined s words names text o (HostSheet.answered (SheetAllows.accepted read (smallest-by-test (x .rules) one I .1 smallest) h))
 
-  pub host-sheet-does-not-fit : {answer : ℕ} {ws ns text′ : List ℕ} → length text < length (sheetOf s x I) → HostSheet s words names text answer ws ns text′
+  pub host-sheet-does-not-fit : {answer : ℕ} {ws ns text′ : List ℕ}
+      → length text < length (sheetOf s x I) → HostSheet s words names text answer ws ns text′
       → (answer ≡ packed (text-room-too-small (length (sheetOf s x I)))) × (ws ≡ wordsOver (padded (length words / 2) []) words)
       × (ns ≡ namesOver (padded (length names / 4) []) names) × (text′ ≡ text)
   host-sheet-does-not-fit h o =
@@ -347,7 +363,8 @@ module _ (N : ℕ) (t : List ℕ) (accepted : AcceptedTable N t) {l : List ℕ} 
   pub settled-is-not-refused : {answer : Decided} → SettledAllows r t answer → (f : Refusal) → answer ≡ Decided.Refused f → ⊥
   settled-is-not-refused o = rooms.settled-never-refused N t accepted picked o
 
-  pub report-is-refused-before-settled : (room : List ℕ) → N ≤ length room → {answer : Checked} {room′ : List ℕ} → ReportAllows r t room answer room′
+  pub report-is-refused-before-settled : (room : List ℕ) → N ≤ length room
+      → {answer : Checked} {room′ : List ℕ} → ReportAllows r t room answer room′
       → (f : Refusal) → answer ≡ Checked.Refused f → (f ≡ not-settled) × (Settled (rulesOf t) (marksOf r) → ⊥)
   report-is-refused-before-settled room fits o = rooms.report-refused-before-settled N t accepted picked room fits o
 
@@ -379,5 +396,6 @@ module _ (N : ℕ) (t : List ℕ) (accepted : AcceptedTable N t) {l : List ℕ} 
   evaluation-is-the-report room {x = x} {y = y} o s w = evaluation-equals-report N t room x y o picked s w
 
 -- so N passes settle
-pub n-passes-settle : (N : ℕ) (t : List ℕ) → AcceptedTable N t → {r : MarkRecord} → PickPasses t N N (noMarksFor N) r → Settled (rulesOf t) (marksOf r)
+pub n-passes-settle : (N : ℕ) (t : List ℕ) → AcceptedTable N t → {r : MarkRecord}
+    → PickPasses t N N (noMarksFor N) r → Settled (rulesOf t) (marksOf r)
 n-passes-settle = rooms.n-passes-settle

@@ -16,7 +16,8 @@ use Rattle.evaluation.proofs.Evaluated.{evaluation-accepted}
 use Rattle.evaluation.proofs.Laws.{evaluated-is}
 
 -- whole evaluation equals the report after picks from a fresh record until settled, in any order
-pub evaluation-equals-report : (N : ℕ) (t room x y : List ℕ) {l : List ℕ} {r : MarkRecord} {answer : Checked} → EvaluationAllows N t room Checked.Accepted x
+pub evaluation-equals-report : (N : ℕ) (t room x y : List ℕ) {l : List ℕ} {r : MarkRecord} {answer : Checked}
+    → EvaluationAllows N t room Checked.Accepted x
     → Picks t (noMarksFor N) l r → Settled (rulesOf t) (marksOf r) → ReportAllows r t room answer y → (answer ≡ Checked.Accepted) × (x ≡ y)
 evaluation-equals-report N t room x y o picks s w =
     let e = evaluated-is N t room x Checked.Accepted o refl in

@@ -47,7 +47,8 @@ first-round R n below le h s′ any len clean o =
     round-settles R n below le (replicate 8 0) s′ (replicate 16 0) h any (begins R)
     (record {
       held-length = len;
-      held = λ l. ((λ t. clean→held (member (replicate 8 0)) (clean l .0 t)), λ d. clean l .1 (held→clean (member (replicate 8 0)) (member-of-zeros 8) d));
+      held =
+          λ l. ((λ t. clean→held (member (replicate 8 0)) (clean l .0 t)), λ d. clean l .1 (held→clean (member (replicate 8 0)) (member-of-zeros 8) d));
       clean = member h;
       clean-is = clean;
       over = o;

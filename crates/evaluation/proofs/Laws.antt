@@ -29,7 +29,8 @@ use Rattle.evaluation.specs.Evaluation.{evaluationFault, EvaluationAllow
 use Rattle.evaluation.proofs.Evaluated.{evaluation-accepted}
 
 -- with N marks made an evaluation is settled: 19 can't happen
-pub always-settles : (N : ℕ) (t : List ℕ) (room : ℕ) → evaluationFault N t room ≡ Accepted → (A : Marks) → Marking (rulesOf t) N A → Settled (rulesOf t) A
+pub always-settles : (N : ℕ) (t : List ℕ) (room : ℕ) → evaluationFault N t room ≡ Accepted
+    → (A : Marks) → Marking (rulesOf t) N A → Settled (rulesOf t) A
 always-settles N t room e A m =
     let a = evaluation-accepted N t room e in
     let below = accepted-heads N t (a .1) in
@@ -42,7 +43,8 @@ refused-is N t room room′ ans r (never-settles e A m n) p = absurd (n (always-
 refused-is N t room room′ ans r (evaluated e I s) p = let z : _≡_ {A = ℕ} 0 1 = cc in absurd (omega arith)
 
 pub evaluated-is : (N : ℕ) (t room room′ : List ℕ) (ans : Checked) → EvaluationAllows N t room ans room′ → ans ≡ Checked.Accepted
-    → (evaluationFault N t (length room) ≡ Accepted) × ((I : Interpretation) × Smallest (rulesOf t) I × (room′ ≡ written (λ a. value I (positive a)) N room))
+    → (evaluationFault N t (length room) ≡ Accepted)
+    × ((I : Interpretation) × Smallest (rulesOf t) I × (room′ ≡ written (λ a. value I (positive a)) N room))
 evaluated-is N t room room′ ans (refused {f} e) p = let z : _≡_ {A = ℕ} 0 1 = cc in absurd (omega arith)
 evaluated-is N t room room′ ans (never-settles e A m n) p = let z : _≡_ {A = ℕ} 0 1 = cc in absurd (omega arith)
 evaluated-is N t room room′ ans (evaluated e I s) p = (e, (I, s, refl))

@@ -48,7 +48,8 @@ module _ (s : List ℕ) (H C : ℕ → Bool) (len : length s ≡ 8) where
         let m : member (putIn (so-far a) a) ≡ (member (so-far a) with a) = member-putIn (so-far a) a (omega arith) in
         let u₀ : T (not (member s a)) = and-left (not (member s a)) (conflicts H C a) (true→T (one a) e) in
         let u : T (not (member (so-far a) a)) = subst⁻¹ (λ (b : Bool). T (not b)) (k .ahead a (omega arith)) u₀ in
-        let c : count 512 (member (putIn (so-far a) a)) ≡ suc (count 512 (member (so-far a))) = ap (count 512) m ∙ count-with 512 (member (so-far a)) a lt u in
+        let c : count 512 (member (putIn (so-far a) a)) ≡ suc (count 512 (member (so-far a))) = ap (count 512) m
+        ∙ count-with 512 (member (so-far a)) a lt u in
         record {
           ahead = λ b h. ap (λ (f : ℕ → Bool). f b) m ∙ rw (ne-eqb b a (λ p. omega arith)) (k .ahead b (omega arith));
           length-same = length-putIn (so-far a) a ∙ k .length-same;
@@ -111,7 +112,8 @@ pub round-begins : (s : List ℕ) (H C : ℕ → Bool) → RoundOver s H C 0 fal
 unfolding markableBelow markedBelow
 round-begins s H C = record { marks-are = refl; any-is = refl }
 
-pub round-ends : (s s′ : List ℕ) (H C : ℕ → Bool) (a n : ℕ) (any : Bool) → a ≤ n → n ≤ a → RoundOver s H C a any s′ → RoundOver s H C n any s′
+pub round-ends : (s s′ : List ℕ) (H C : ℕ → Bool) (a n : ℕ) (any : Bool)
+    → a ≤ n → n ≤ a → RoundOver s H C a any s′ → RoundOver s H C n any s′
 round-ends s s′ H C a n any h k o = subst (λ (x : ℕ). RoundOver s H C x any s′) (omega arith) o
 
 -- what is left to mark, and the round that finds it out
@@ -119,7 +121,8 @@ abbrev pub left : List ℕ → Bool → ℕ
 left s again = 512 - count 512 (member s) + cond again 1 0
 
 -- a whole round from marks that were begun: held again, clean afresh, then marks
-module _ (R : List Rule) (n : ℕ) (below : HeadsBelow n R) (le : n ≤ 512) (s s′ h h′ : List ℕ) (any : Bool) (b : Begun R s h) (o : Round R n s s′ h′ any) where
+module _ (R : List Rule) (n : ℕ) (below : HeadsBelow n R) (le : n ≤ 512)
+    (s s′ h h′ : List ℕ) (any : Bool) (b : Begun R s h) (o : Round R n s s′ h′ any) where
   by-round : Looked s (member h′) (o .clean) n any s′
   by-round = over-looked s (member h′) (o .clean) (b .marks-length) n any s′ le (o .over)
 

@@ -42,8 +42,10 @@ fills-one bs old now i w h k ew e =
     ∙ rw (add-one i) (ap (λ (l : List ℕ). l ++ drop (suc i) old)
     (sym (take-suc (wordsIn bs) i 0 (omega arith) ∙ ap (λ (z : ℕ). take i (wordsIn bs) ++ (z ∷ [])) (wordsIn-at bs i h ∙ sym ew))))
 
-pub fills-all : (bs old now : List ℕ) (i : ℕ) → i ≤ length bs / 2 → length bs / 2 ≤ i → now ≡ filled bs old i → now ≡ wordsIn bs ++ drop (length bs / 2) old
+pub fills-all : (bs old now : List ℕ) (i : ℕ) → i ≤ length bs / 2 → length bs / 2 ≤ i
+    → now ≡ filled bs old i → now ≡ wordsIn bs ++ drop (length bs / 2) old
 fills-all bs old now i h k e =
     let n : i ≡ length bs / 2 = omega arith in
     e ∙ ap₂
-    (λ (x y : List ℕ). x ++ y) (ap (λ (z : ℕ). take z (wordsIn bs)) (n ∙ sym (length-wordsIn bs)) ∙ take-length (wordsIn bs)) (ap (λ (z : ℕ). drop z old) n)
+    (λ (x y : List ℕ). x ++ y) (ap (λ (z : ℕ). take z (wordsIn bs)) (n ∙ sym (length-wordsIn bs)) ∙ take-length (wordsIn bs))
+    (ap (λ (z : ℕ). drop z old) n)

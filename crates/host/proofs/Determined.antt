@@ -54,7 +54,8 @@ host-within N t lone room = go (evaluationFault N t room) refl
 -- an answer tells its cause: 0 exactly if nothing refuses, else the fault that the written order finds
 pub host-answer-tells : (N : ℕ) (bytes room : List ℕ) {a : ℕ} {room′ : List ℕ} → HostEvaluation N bytes room a room′
     → ((hostFault N (wordsIn bytes) (loneByte bytes) (length room) ≡ Accepted) × (a ≡ 0))
-    ⊎ ((f : Refusal) × (hostFault N (wordsIn bytes) (loneByte bytes) (length room) ≡ Refused f) × (a ≡ packed f) × (1 ≤ f .number) × (f .place < 4294967296))
+    ⊎ ((f : Refusal) × (hostFault N (wordsIn bytes) (loneByte bytes) (length room) ≡ Refused f)
+    × (a ≡ packed f) × (1 ≤ f .number) × (f .place < 4294967296))
 host-answer-tells N bytes room (HostEvaluation.refused {f} e) =
     let k : PlacesTo 8192 (Refused f) = subst (PlacesTo 8192) e (host-within N (wordsIn bytes) (loneByte bytes) (length room)) in
     inr (f, e, refl, k .2, omega (arith, k .1))
@@ -63,5 +64,6 @@ host-answer-tells N bytes room (HostEvaluation.evaluated e I s) = inl (e, refl)
 pub zero-exactly-if-accepted : (N : ℕ) (bytes room : List ℕ) {a : ℕ} {room′ : List ℕ} → HostEvaluation N bytes room a room′
     → (a ≡ 0) ↔ (hostFault N (wordsIn bytes) (loneByte bytes) (length room) ≡ Accepted)
 zero-exactly-if-accepted N bytes room o =
-    ⊎-elim (λ q. ((λ z. q .0), λ e. q .1)) (λ q. ((λ z. absurd (omega (arith, z, q .2, q .3))), λ e. absurd (refused≢accepted (q .0) (sym (q .1) ∙ e))))
+    ⊎-elim (λ q. ((λ z. q .0), λ e. q .1))
+    (λ q. ((λ z. absurd (omega (arith, z, q .2, q .3))), λ e. absurd (refused≢accepted (q .0) (sym (q .1) ∙ e))))
     (host-answer-tells N bytes room o)

@@ -36,7 +36,8 @@ words-refused N t room room′ ans r a o e p =
     let q = refused-is N t room room′ ans r o e in
     rw (p, q .1) (WordsEvaluation.refused (q .0))
 
-pub words-packable : (N : ℕ) (t room room′ : List ℕ) (ans : Checked) (r : Refusal) → EvaluationAllows N t room ans room′ → ans ≡ Checked.Refused r → Packable r
+pub words-packable : (N : ℕ) (t room room′ : List ℕ) (ans : Checked) (r : Refusal)
+    → EvaluationAllows N t room ans room′ → ans ≡ Checked.Refused r → Packable r
 words-packable N t room room′ ans r o e =
     within-packable (evaluationFault N t (length room)) r (evaluation-within N t (length room)) (refused-is N t room room′ ans r o e .0)
 

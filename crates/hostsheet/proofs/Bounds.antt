@@ -59,7 +59,8 @@ ended-small : (s : List ℕ) (q n : ℕ) (negated : Bool) (role : Role) → q �
 unfolding endedName
 ended-small s q n negated role h =
     demanding-holds SmallReading NotRead (leb n 24) _ _ (omega arith, omega arith, omega arith)
-    (λ e. demanding-holds SmallReading NotRead (mayFollow role (byteAt s (q + n))) _ _ (omega arith, omega (arith, leb-true n 24 e), omega arith) (λ e′. tt))
+    (λ e. demanding-holds SmallReading NotRead (mayFollow role (byteAt s (q + n))) _ _
+    (omega arith, omega (arith, leb-true n 24 e), omega arith) (λ e′. tt))
 
 name-small : (s : List ℕ) (q : ℕ) (negated : Bool) (role : Role) → q ≤ 65537 → SmallReading (nameAt s q negated role)
 unfolding nameAt
@@ -91,7 +92,8 @@ abbrev SmallOutcome : Outcome → Type 0
 SmallOutcome (accepted x) = Unit {0}
 SmallOutcome (refused f) = Small furthest f
 
-fault-small : (names : ℕ) (repeated : Bool) (body words p q : ℕ) → p ≤ furthest → q ≤ furthest → PlacesTo furthest (faultWith names repeated body words p q)
+fault-small : (names : ℕ) (repeated : Bool) (body words p q : ℕ) → p ≤ furthest
+    → q ≤ furthest → PlacesTo furthest (faultWith names repeated body words p q)
 unfolding faultWith
 fault-small names repeated body words p q h k =
     asking-to furthest (leb names 512) _ _ (omega arith, k, omega arith)
@@ -150,7 +152,8 @@ value-sheet-is-short s wordRoom nameRoom x I e =
     omega (arith, few, lines-length s (isHead (x .rules)) (λ a. code (value I (positive a))) 0 (x .names), lines-small (isHead (x .rules)) 0 (x .names))
 
 -- a refusal's number is not 0, and number and place have room in the answer
-packs : (s : List ℕ) (wordRoom nameRoom : ℕ) (text : List ℕ) {r : SheetAnswer} {ws ns text′ : List ℕ} → SheetAllows s wordRoom nameRoom text r ws ns text′
+packs : (s : List ℕ) (wordRoom nameRoom : ℕ) (text : List ℕ) {r : SheetAnswer} {ws ns text′ : List ℕ}
+    → SheetAllows s wordRoom nameRoom text r ws ns text′
     → (g : Refusal) → r ≡ SheetAnswer.Refused g → Packable g × (1 ≤ g .number)
 packs s wordRoom nameRoom text (SheetAllows.refused {f} e) g same =
     let small : Small furthest f = subst SmallOutcome e (outcome-small s wordRoom nameRoom) in

@@ -90,7 +90,8 @@ module _ (ws old now : List ℕ) (i w : ℕ) (h : i < length old / 2) (ew : w �
       (lays-byte (wordBytes es) old fits now (2 * i) (w % 256) (omega arith) (ap (λ (z : ℕ). z % 256) here ∙ sym (at .0)) e)
       ∙ ap (laid (wordBytes es) old) next
 
-pub laid-words : (ws old now : List ℕ) (i : ℕ) → i ≤ length old / 2 → length old / 2 ≤ i → now ≡ laid (wordBytes (sized (length old / 2) ws)) old (2 * i)
+pub laid-words : (ws old now : List ℕ) (i : ℕ) → i ≤ length old / 2
+    → length old / 2 ≤ i → now ≡ laid (wordBytes (sized (length old / 2) ws)) old (2 * i)
     → now ≡ wordsOver (sized (length old / 2) ws) old
 laid-words ws old now i h k e =
     let es = sized (length old / 2) ws in
@@ -130,7 +131,8 @@ module _ (ns old now : List ℕ) (i e : ℕ) (h : i < length old / 4) (ee : e �
       ∙ ap (laid row old) three in
       lays-byte row old fits _ (4 * i + 3) (e / 16777216) (omega arith) (ap (λ (z : ℕ). z / 16777216) here ∙ sym (at .3)) third ∙ ap (laid row old) next
 
-pub laid-names : (ns old now : List ℕ) (i : ℕ) → i ≤ length old / 4 → length old / 4 ≤ i → now ≡ laid (nameBytes (sized (length old / 4) ns)) old (4 * i)
+pub laid-names : (ns old now : List ℕ) (i : ℕ) → i ≤ length old / 4
+    → length old / 4 ≤ i → now ≡ laid (nameBytes (sized (length old / 4) ns)) old (4 * i)
     → now ≡ namesOver (sized (length old / 4) ns) old
 laid-names ns old now i h k e =
     let es = sized (length old / 4) ns in

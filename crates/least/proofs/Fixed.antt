@@ -52,7 +52,8 @@ module _ (A : Marks) where
       fired t =
           let u : T (not (A (atom (ρ .head)))) = not-or-right (S (ρ .head)) (A (atom (ρ .head))) (and-left (not (skips A S (ρ .head))) (fires S ρ) t) in
           ⊎-elim (λ (e : ρ .groups ≡ []). by-fact ρ m refl u e)
-          (λ (q : (β : List ℕ) × (β ∈ ρ .groups) × ((ι : ℕ) → ι ∈ β → T (S ι))). by-group ρ (q .0) m refl u (q .1) (λ ι i. s ι (q .2 ι i)))
+          (λ (q : (β : List ℕ) × (β ∈ ρ .groups) × ((ι : ℕ) → ι ∈ β → T (S ι))). by-group ρ
+          (q .0) m refl u (q .1) (λ ι i. s ι (q .2 ι i)))
           (fires→ S ρ (and-right (not (skips A S (ρ .head))) (fires S ρ) t))
 
       go : (b : Bool) → adds A S ρ ≡ b → T (cond b (S with ρ .head) S l) → Least R base (λ x. Unmarked A (atom x)) l
@@ -61,7 +62,8 @@ module _ (A : Marks) where
       go false e k = s l k
 
   passed-least : (R : List Rule) (base : ℕ → Type 0) (Q : List Rule) → ((ρ : Rule) → ρ ∈ Q → ρ ∈ R) → (S : ℕ → Bool)
-      → ((l : ℕ) → T (S l) → Least R base (λ x. Unmarked A (atom x)) l) → (l : ℕ) → T (passed A S Q l) → Least R base (λ x. Unmarked A (atom x)) l
+      → ((l : ℕ) → T (S l) → Least R base (λ x. Unmarked A (atom x)) l)
+      → (l : ℕ) → T (passed A S Q l) → Least R base (λ x. Unmarked A (atom x)) l
   unfolding passed
   passed-least R base [] sub S s l h = s l h
   passed-least R base (ρ ∷ Q) sub S s l h =
@@ -77,7 +79,8 @@ module _ (A : Marks) where
       new true b c p = absurd (false≢true p)
       new false b c p = tt
 
-      go : (b : Bool) → adds A S σ ≡ b → passed A (cond b (S with σ .head) S) R ≡ S → (passed A S R ≡ S → (ρ : Rule) → ρ ∈ R → T (not (adds A S ρ)))
+      go : (b : Bool) → adds A S σ ≡ b → passed A (cond b (S with σ .head) S) R ≡ S
+          → (passed A S R ≡ S → (ρ : Rule) → ρ ∈ R → T (not (adds A S ρ)))
           → T (not (adds A S ρ))
       go true p f below =
           let h : T (S (σ .head)) = subst (λ (U : ℕ → Bool). T (U (σ .head))) f (passed-⊇ R (S with σ .head) (σ .head) (with-itself S (σ .head))) in
@@ -85,7 +88,8 @@ module _ (A : Marks) where
       go false p f below =
           ⊎-elim (λ (q : ρ ≡ σ). rw q (rw p tt)) (λ (k : ρ ∈ R). below f ρ k) (List·Memᴰ·cases-cons m)
 
-  pub still-closed : (R : List Rule) (S : ℕ → Bool) → passed A S R ≡ S → (ρ : Rule) → ρ ∈ R → Unmarked A (atom (ρ .head)) → Fires S ρ → T (S (ρ .head))
+  pub still-closed : (R : List Rule) (S : ℕ → Bool) → passed A S R ≡ S → (ρ : Rule)
+      → ρ ∈ R → Unmarked A (atom (ρ .head)) → Fires S ρ → T (S (ρ .head))
   still-closed R S e ρ m u f =
       ⊎-elim (λ (h : T (S (ρ .head))). h)
       (λ (n : T (not (S (ρ .head)))).
@@ -104,13 +108,15 @@ module _ (A : Marks) where
   closing-starts t s =
       record { length-same = refl; more = λ l h. h; inside = λ l h. from-base h; at-rest = λ e. absurd (true≢false e) }
 
-  pub closing-goes-on : (t s s₁ s₂ : List ℕ) (again again′ : Bool) → Closing t s s₁ again → Passed A t s₁ again′ s₂ → Closing t s s₂ again′
+  pub closing-goes-on : (t s s₁ s₂ : List ℕ) (again again′ : Bool)
+      → Closing t s s₁ again → Passed A t s₁ again′ s₂ → Closing t s s₂ again′
   closing-goes-on t s s₁ s₂ again again′ c p =
       record {
         length-same = p .length-same ∙ c .length-same;
         more = λ l h. subst⁻¹ (λ (U : ℕ → Bool). T (U l)) (p .all) (passed-⊇ (rulesOf t) (member s₁) l (c .more l h));
         inside = λ l h.
-            passed-least (rulesOf t) (λ x. T (member s x)) (rulesOf t) (λ ρ m. m) (member s₁) (c .inside) l (subst (λ (U : ℕ → Bool). T (U l)) (p .all) h);
+            passed-least (rulesOf t) (λ x. T (member s x)) (rulesOf t) (λ ρ m. m) (member s₁) (c .inside) l
+            (subst (λ (U : ℕ → Bool). T (U l)) (p .all) h);
         at-rest = λ e. ap (λ (U : ℕ → Bool). passed A U (rulesOf t)) (p .unchanged e) ∙ sym (p .all);
       }
 
@@ -133,7 +139,8 @@ module _ (A : Marks) where
 abbrev pub left : List ℕ → Bool → ℕ
 left s again = 1024 - count 1024 (member s) + cond again 1 0
 
-pub left-falls : (A : Marks) (t s s′ : List ℕ) (again again′ : Bool) → again ≡ true → Passed A t s again′ s′ → left s′ again′ < left s again
+pub left-falls : (A : Marks) (t s s′ : List ℕ) (again again′ : Bool)
+    → again ≡ true → Passed A t s again′ s′ → left s′ again′ < left s again
 left-falls A t s s′ again again′ e p = rw e (go again′ refl)
   where
     go : (b : Bool) → again′ ≡ b → 1024 - count 1024 (member s′) + cond b 1 0 < 1024 - count 1024 (member s) + 1

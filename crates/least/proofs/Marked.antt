@@ -52,7 +52,10 @@ or-true false = refl
 pub marking-goes-on : (A : Marks) (s s₁ s₂ : List ℕ) (a : ℕ) → length s₁ ≡ 16 → a < 512
     → Marking-below A s s₁ a → s₂ ≡ withPair s₁ a (A a) → Marking-below A s s₂ (a + 1)
 marking-goes-on A s s₁ s₂ a len lt m e =
-    record { length-same = ap length e ∙ length-pair s₁ a (A a) ∙ m .length-same; members = λ l. ap (λ (u : List ℕ). member u l) e ∙ pair l (A a) refl }
+    record {
+      length-same = ap length e ∙ length-pair s₁ a (A a) ∙ m .length-same;
+      members = λ l. ap (λ (u : List ℕ). member u l) e ∙ pair l (A a) refl;
+    }
   where
     same : (l : ℕ) → (atom l ≡ a → A a ≡ false) → member s₁ l ≡ (member s l || ltb (atom l) (a + 1) && A (atom l))
     same l f = m .members l ∙ elim (ℕ-discrete (atom l) a) [
@@ -92,7 +95,8 @@ marking-ends s s′ t a len h m =
     below l false e = sym (member-past t (atom l) (let k = borrow.Author.Tests.ltb-false (atom l) a e in omega arith))
 
 -- Held is the closure of the marked literals under the rules of unmarked heads
-pub held-as-closure : (R : List Rule) (A : Marks) (base : ℕ → Type 0) → ((l : ℕ) → base l → Held R A l) → ((l : ℕ) → Marked A (atom l) → base l)
+pub held-as-closure : (R : List Rule) (A : Marks) (base : ℕ → Type 0)
+    → ((l : ℕ) → base l → Held R A l) → ((l : ℕ) → Marked A (atom l) → base l)
     → (l : ℕ) → Least R base (λ x. Unmarked A (atom x)) l ↔ Held R A l
 held-as-closure R A base inside marked l = (
   least-contained (Held R A) inside (λ x ρ m e u n. by-fact ρ m e tt n) (λ x ρ β m e u g all. by-group ρ β m e tt g all),
@@ -107,7 +111,8 @@ pub closed-held : (A : Marks) (t s s₁ s₂ : List ℕ) → ((l : ℕ) → T (m
     → WithMarked A s s₁ → ClosedOver A t s₁ s₂ → IsHeld (rulesOf t) A (member s₂)
 closed-held A t s s₁ s₂ inside w c l =
     let base : ((x : ℕ) → T (member s₁ x) → Held (rulesOf t) A x) =
-    λ x h. ⊎-elim (λ (k : T (member s x)). inside x k) (λ (k : T (A (atom x))). from-base k) (or-cases (member s x) (A (atom x)) (subst T (w .members x) h))
+    λ x h.
+    ⊎-elim (λ (k : T (member s x)). inside x k) (λ (k : T (A (atom x))). from-base k) (or-cases (member s x) (A (atom x)) (subst T (w .members x) h))
     in
     let marked : ((x : ℕ) → Marked A (atom x) → T (member s₁ x)) = λ x h. subst⁻¹ T (w .members x) (or-right (member s x) (A (atom x)) h) in
     let e = held-as-closure (rulesOf t) A (λ x. T (member s₁ x)) base marked l in

@@ -89,7 +89,8 @@ new-of : (a b c : Bool) → (not (a || b) && c) ≡ true → T (not a)
 new-of true b c e = absurd (mathlib.Core.Bool.false≢true e)
 new-of false b c e = tt
 
-pub moved-adding : (A : Marks) (t : List ℕ) (at : ℕ) (s : List ℕ) (adding : Bool) (head next : ℕ) (s′ : List ℕ) → length s ≡ 16 → at < length t → Records t at
+pub moved-adding : (A : Marks) (t : List ℕ) (at : ℕ) (s : List ℕ) (adding : Bool) (head next : ℕ) (s′ : List ℕ)
+    → length s ≡ 16 → at < length t → Records t at
     → Decided A (member s) t at adding head next → adding ≡ true → s′ ≡ putIn s head → Moved A t at s next true s′
 unfolding stepped
 moved-adding A t at s adding head next s′ len lt r d ea es =
@@ -100,7 +101,8 @@ moved-adding A t at s adding head next s′ len lt r d ea es =
     record {
       records = next-records t at next h r (d .inside) (d .after);
       length-same = ap length es ∙ length-putIn s head;
-      pass-same = ap (λ (S : ℕ → Bool). passed A S (rulesOf (drop next t))) (m ∙ rw (added, d .head-is)) ∙ pass-there A (member s) t at next h (d .after);
+      pass-same =
+          ap (λ (S : ℕ → Bool). passed A S (rulesOf (drop next t))) (m ∙ rw (added, d .head-is)) ∙ pass-there A (member s) t at next h (d .after);
       unchanged = λ e. absurd (mathlib.Core.Bool.true≢false e);
       grew = λ e.
           let c : count 1024 (member s with head) ≡ suc (count 1024 (member s)) = count-with 1024 (member s) head
@@ -124,7 +126,8 @@ moved-leaving A t at s adding head next lt r d ea =
     }
 
 -- a skipped head is not added, and another is if its rule fires
-pub skipped-there : (A : Marks) (S : ℕ → Bool) (t : List ℕ) (at head : ℕ) (skip : Bool) (next : ℕ) → head ≡ getD t at 0 → skip ≡ skips A S head → skip ≡ true
+pub skipped-there : (A : Marks) (S : ℕ → Bool) (t : List ℕ) (at head : ℕ) (skip : Bool) (next : ℕ)
+    → head ≡ getD t at 0 → skip ≡ skips A S head → skip ≡ true
     → GroupsSkipped t (bodyAt at) (groupsIn t at) next → Decided A S t at false head next
 skipped-there A S t at head skip next eh es e g =
     record {

@@ -18,7 +18,8 @@ wholly-cons : (S : ℕ → Bool) (t : List ℕ) (i k : ℕ) → i < length t
     → wholly S (take (suc k) (drop i t)) ≡ (S (getD t i 0) && wholly S (take k (drop (i + 1) t)))
 wholly-cons S t i k h = rw (add-one i, drop-cons t i 0 h)
 
-pub group-goes-on : (S : ℕ → Bool) (t : List ℕ) (at k i w : ℕ) (b : Bool) → at + k ≤ length t → i < k → w ≡ getD t (at + i) 0 → b ≡ S w → b ≡ true
+pub group-goes-on : (S : ℕ → Bool) (t : List ℕ) (at k i w : ℕ) (b : Bool)
+    → at + k ≤ length t → i < k → w ≡ getD t (at + i) 0 → b ≡ S w → b ≡ true
     → {whole : Bool} → wholly S (take (k - i) (drop (at + i) t)) ≡ whole → wholly S (take (k - (i + 1)) (drop (at + (i + 1)) t)) ≡ whole
 group-goes-on S t at k i w b le lt ew eb e {whole} inv =
     let s : S (getD t (at + i) 0) ≡ true = sym (ap S ew) ∙ sym eb ∙ e in
@@ -26,14 +27,16 @@ group-goes-on S t at k i w b le lt ew eb e {whole} inv =
     let p : at + (i + 1) ≡ at + i + 1 = omega arith in
     rw p (sym (wholly-cons S t (at + i) (k - (i + 1)) (omega arith) ∙ rw s) ∙ rw (← n) inv)
 
-pub group-stops : (S : ℕ → Bool) (t : List ℕ) (at k i w : ℕ) (b : Bool) → at + k ≤ length t → i < k → w ≡ getD t (at + i) 0 → b ≡ S w → b ≡ false
+pub group-stops : (S : ℕ → Bool) (t : List ℕ) (at k i w : ℕ) (b : Bool)
+    → at + k ≤ length t → i < k → w ≡ getD t (at + i) 0 → b ≡ S w → b ≡ false
     → {whole : Bool} → wholly S (take (k - i) (drop (at + i) t)) ≡ whole → false ≡ whole
 group-stops S t at k i w b le lt ew eb e {whole} inv =
     let s : S (getD t (at + i) 0) ≡ false = sym (ap S ew) ∙ sym eb ∙ e in
     let n : k - i ≡ suc (k - (i + 1)) = omega arith in
     sym (wholly-cons S t (at + i) (k - (i + 1)) (omega arith) ∙ rw s) ∙ rw (← n) inv
 
-pub group-ends : (S : ℕ → Bool) (t : List ℕ) (at k i : ℕ) → k ≤ i → {whole : Bool} → wholly S (take (k - i) (drop (at + i) t)) ≡ whole → true ≡ whole
+pub group-ends : (S : ℕ → Bool) (t : List ℕ) (at k i : ℕ) → k ≤ i → {whole : Bool}
+    → wholly S (take (k - i) (drop (at + i) t)) ≡ whole → true ≡ whole
 group-ends S t at k i h inv = let n : k - i ≡ 0 = omega arith in (rw n) ∙ inv
 
 -- one group read, the others still to come
@@ -63,7 +66,8 @@ group-fits t at (suc l) k h lt ek = go (drop at t) refl h
         let kx : x ≤ length ws = w .0 in
         omega arith
 
-pub body-goes-on : (S : ℕ → Bool) (t : List ℕ) (at left k : ℕ) (fires fires′ : Bool) → WholeGroups left (drop at t) → 0 < left → k ≡ getD t at 0
+pub body-goes-on : (S : ℕ → Bool) (t : List ℕ) (at left k : ℕ) (fires fires′ : Bool)
+    → WholeGroups left (drop at t) → 0 < left → k ≡ getD t at 0
     → fires′ ≡ (fires || wholly S (take k (drop (literalsAt at) t))) → Turned S t at left fires (literalsAt at + k) fires′
 unfolding WholeGroups takeGroups dropGroups
 body-goes-on S t at zero k fires fires′ h lt ek ef = absurd (omega arith)

@@ -73,7 +73,8 @@ further-grows k R c at in-group =
     let β = lastGroup R in
     let grown = onLast-is (λ γ. γ ++ (c ∷ [])) [] βs (in-group .0) in
     let same-count : length (onLast (λ γ. γ ++ (c ∷ [])) βs) ≡ length βs =
-    ap length grown ∙ length-append (butLast βs) ((β ++ (c ∷ [])) ∷ []) ∙ sym (ap length (snoc-of [] βs (in-group .0)) ∙ length-append (butLast βs) (β ∷ [])) in
+    ap length grown ∙ length-append (butLast βs) ((β ++ (c ∷ [])) ∷ [])
+    ∙ sym (ap length (snoc-of [] βs (in-group .0)) ∙ length-append (butLast βs) (β ∷ [])) in
     record {
       P = B ++ (h ∷ length βs ∷ C);
       G = β;

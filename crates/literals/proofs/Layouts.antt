@@ -12,7 +12,8 @@ use Rattle.buffers.specs.Padded.{padded}
 pub groups-snoc : (βs : List (List ℕ)) (β : List ℕ) → groupsWords (βs ++ (β ∷ [])) ≡ groupsWords βs ++ groupWords β
 unfolding groupsWords
 groups-snoc [] β = simp append-nil
-groups-snoc (γ ∷ βs) β = ap (λ (t : List ℕ). groupWords γ ++ t) (groups-snoc βs β) ∙ sym (append-assoc (groupWords γ) (groupsWords βs) (groupWords β))
+groups-snoc (γ ∷ βs) β =
+    ap (λ (t : List ℕ). groupWords γ ++ t) (groups-snoc βs β) ∙ sym (append-assoc (groupWords γ) (groupsWords βs) (groupWords β))
 
 pub words-snoc : (R : List Rule) (ρ : Rule) → wordsOf (R ++ (ρ ∷ [])) ≡ wordsOf R ++ recordWords ρ
 unfolding wordsOf
@@ -60,7 +61,8 @@ put1-zero n l a h =
     ∙ set-at l 0 (0 ∷ replicate (n - (length l + 2)) 0) a (length l) refl
     ∙ sym (pad-of2 n l a 0)
 
-pub put2 : (n : ℕ) (l : List ℕ) (a b : ℕ) → length l + 2 ≤ n → set (set (padded n l) (length l) a) (length l + 1) b ≡ padded n (l ++ (a ∷ b ∷ []))
+pub put2 : (n : ℕ) (l : List ℕ) (a b : ℕ) → length l + 2 ≤ n
+    → set (set (padded n l) (length l) a) (length l + 1) b ≡ padded n (l ++ (a ∷ b ∷ []))
 put2 n l a b h =
     ap (λ (t : List ℕ). set t (length l + 1) b) (put1-zero n l a h ∙ pad-of2 n l a 0 ∙ sym (append-assoc l (a ∷ []) _))
     ∙ set-at (l ++ (a ∷ [])) 0 (replicate (n - (length l + 2)) 0) b (length l + 1) (length-append l (a ∷ []))
@@ -114,7 +116,8 @@ module _ (n : ℕ) (ws : List ℕ) (R R′ : List Rule) (i m : ℕ) (w : ℕ) (i
       ∙ put1 n (g .P ++ ((m + 1) ∷ g .G)) a (omega (arith, grown-length (a ∷ []) g))
       ∙ sym (ap (padded n) (g .words))
 
-  pub grown2 : (a b : ℕ) → w + 2 ≤ n → Grown R R′ i m (a ∷ b ∷ []) → set (set (set ws i (getD ws i 0 + 1)) w a) (w + 1) b ≡ padded n (wordsOf R′)
+  pub grown2 : (a b : ℕ) → w + 2 ≤ n → Grown R R′ i m (a ∷ b ∷ [])
+      → set (set (set ws i (getD ws i 0 + 1)) w a) (w + 1) b ≡ padded n (wordsOf R′)
   grown2 a b h g =
       ap₂ (λ (t : List ℕ) (x : ℕ). set (set t x a) (x + 1) b) (grown-set (a ∷ b ∷ []) g) (grown-length (a ∷ b ∷ []) g)
       ∙ put2 n (g .P ++ ((m + 1) ∷ g .G)) a b (omega (arith, grown-length (a ∷ b ∷ []) g))

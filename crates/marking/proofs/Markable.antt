@@ -43,7 +43,8 @@ module _ (R : List Rule) (A : Marks) (H C : ℕ → Bool) (h : IsHeld R A H) (c 
         (and-intro (H (positive a)) (H (negative a)) (h (positive a) .1 (x .0)) (h (negative a) .1 (x .1))))
         (λ (x : HeldNotClean R A (positive a) ⊎ HeldNotClean R A (negative a)).
         or-right (H (positive a) && H (negative a)) (heldNotClean H C (positive a) || heldNotClean H C (negative a))
-        (⊎-elim (λ (y : HeldNotClean R A (positive a)). or-left (heldNotClean H C (positive a)) (heldNotClean H C (negative a)) (→heldNotClean (positive a) y))
+        (⊎-elim
+        (λ (y : HeldNotClean R A (positive a)). or-left (heldNotClean H C (positive a)) (heldNotClean H C (negative a)) (→heldNotClean (positive a) y))
         (λ (y : HeldNotClean R A (negative a)). or-right (heldNotClean H C (positive a)) (heldNotClean H C (negative a)) (→heldNotClean (negative a) y)) x))
         (m .because)),
   )
@@ -68,5 +69,6 @@ module _ (R : List Rule) (A : Marks) (H C : ℕ → Bool) (h : IsHeld R A H) (c 
       record {
         when-true = λ f s. let q = some→ n (true→T (markableBelow A H C n) (sym e ∙ f)) in s (q .0) (markable-is (q .0) .0 (q .1));
         when-false = λ f a m. T-not
-            (markableBelow A H C n) (false→not (markableBelow A H C n) (sym e ∙ f)) (→some n a (can-be-marked-below R n below A a m) (markable-is a .1 m));
+            (markableBelow A H C n) (false→not (markableBelow A H C n) (sym e ∙ f))
+            (→some n a (can-be-marked-below R n below A a m) (markable-is a .1 m));
       }

@@ -113,11 +113,13 @@ module _ (s : List ℕ) (bytes : (i : ℕ) → byteAt s i < 256) where
 
   module _ (a b n : ℕ) where
     -- four to eight bytes: the first four and the last four
-    pub fours-differ : (x y : ℕ) → 4 ≤ n → x ≡ fourAt s a → y ≡ fourAt s b → (x ≡ y → ⊥) → false ≡ sameBytes (bytesAt s a n) (bytesAt s b n)
+    pub fours-differ : (x y : ℕ) → 4 ≤ n → x ≡ fourAt s a → y ≡ fourAt s b
+        → (x ≡ y → ⊥) → false ≡ sameBytes (bytesAt s a n) (bytesAt s b n)
     fours-differ x y h ex ey d =
         sym (differs-is-false s a b n (λ same. d (ex ∙ same-fours s a b (λ j l. same j (omega arith)) ∙ sym ey)))
 
-    pub fours-decide : (x y x′ y′ : ℕ) → 4 ≤ n → n ≤ 8 → x ≡ fourAt s a → y ≡ fourAt s b → x ≡ y → x′ ≡ fourAt s (a + (n - 4)) → y′ ≡ fourAt s (b + (n - 4))
+    pub fours-decide : (x y x′ y′ : ℕ) → 4 ≤ n → n ≤ 8 → x ≡ fourAt s a → y ≡ fourAt s b
+        → x ≡ y → x′ ≡ fourAt s (a + (n - 4)) → y′ ≡ fourAt s (b + (n - 4))
         → eqb x′ y′ ≡ sameBytes (bytesAt s a n) (bytesAt s b n)
     fours-decide x y x′ y′ h h′ ex ey e ex′ ey′ = by (eqb x′ y′) refl
       where
@@ -125,7 +127,8 @@ module _ (s : List ℕ) (bytes : (i : ℕ) → byteAt s i < 256) where
         by true q =
             sym (same-is-true s a b n
             (join s a b 4 (n - 4) 4 n
-            (omega arith) (omega arith) (fours-same a b (sym ex ∙ e ∙ ey)) (fours-same (a + (n - 4)) (b + (n - 4)) (sym ex′ ∙ eqb-true x′ y′ q ∙ ey′))))
+            (omega arith) (omega arith) (fours-same a b (sym ex ∙ e ∙ ey))
+            (fours-same (a + (n - 4)) (b + (n - 4)) (sym ex′ ∙ eqb-true x′ y′ q ∙ ey′))))
         by false q =
             sym (differs-is-false s a b n
             (λ same. true≢false
@@ -151,7 +154,8 @@ module _ (s : List ℕ) (bytes : (i : ℕ) → byteAt s i < 256) where
             (join s a b i (n - 8) 8 n h′ (omega arith) front (eights-same (a + (n - 8)) (b + (n - 8)) (sym ex ∙ eqb-true x y q ∙ ey))))
         by false q =
             sym (differs-is-false s a b n
-            (λ same. true≢false (sym (eq-eqb x y (ex ∙ same-eights s (a + (n - 8)) (b + (n - 8)) (part s a b n (n - 8) 8 (omega arith) same) ∙ sym ey)) ∙ q)))
+            (λ same. true≢false
+            (sym (eq-eqb x y (ex ∙ same-eights s (a + (n - 8)) (b + (n - 8)) (part s a b n (n - 8) 8 (omega arith) same) ∙ sym ey)) ∙ q)))
 
 pub none-same : (s : List ℕ) (a b : ℕ) → Same s a b 0
 none-same s a b j l = absurd (omega arith)

@@ -141,7 +141,8 @@ closure ok (suc n) rest st = after (λ r s. closure ok n r s) st (pick (ready ok
 PickIs : (Rule → Bool) → List Rule → Pick → Type 0
 PickIs test R nothing = (ρ : Rule) → ρ ∈ R → T (test ρ) → ⊥
 PickIs test R (taken ρ R′) =
-    (ρ ∈ R) × T (test ρ) × (length R ≡ suc (length R′)) × ((σ : Rule) → σ ∈ R → (σ ≡ ρ) ⊎ (σ ∈ R′)) × ((σ : Rule) → σ ∈ R′ → σ ∈ R)
+    (ρ ∈ R) × T (test ρ) × (length R ≡ suc (length R′))
+    × ((σ : Rule) → σ ∈ R → (σ ≡ ρ) ⊎ (σ ∈ R′)) × ((σ : Rule) → σ ∈ R′ → σ ∈ R)
 
 pick-is : (test : Rule → Bool) (R : List Rule) → PickIs test R (pick test R)
 unfolding PickIs
@@ -161,7 +162,8 @@ pick-is test (ρ ∷ R) = choose (test ρ) (λ h. h) (λ h. h) (pick test R) (pi
       λ τ m. ⊎-elim (λ (e : τ ≡ ρ). List·Memᴰ·head e) (λ (k : τ ∈ R′). List·Memᴰ·tail (h .4 τ k)) (List·Memᴰ·cases-cons m),
     )
 
-    choose : (b : Bool) → (T b → T (test ρ)) → (T (test ρ) → T b) → (p : Pick) → PickIs test R p → PickIs test (ρ ∷ R) (cond b (taken ρ R) (keep ρ p))
+    choose : (b : Bool) → (T b → T (test ρ)) → (T (test ρ) → T b) → (p : Pick)
+        → PickIs test R p → PickIs test (ρ ∷ R) (cond b (taken ρ R) (keep ρ p))
     choose true f g p h =
         (List·Memᴰ·head refl, f tt, refl, (λ σ m. List·Memᴰ·cases-cons m), λ σ m. List·Memᴰ·tail m)
     choose false f g p h = kept p g h
@@ -301,7 +303,8 @@ module _ (R : List Rule) (ok : ℕ → Bool) where
   grown-least {base} st st′ g s (suc n) l h m =
       go (g .came l m) (λ ι k x. grown-least st st′ g s n ι k x)
     where
-      go : T (st .members l) ⊎ Own st′ l → ((ι : ℕ) → st′ .rank ι < n → T (st′ .members ι) → Least R base (λ x. T (ok x)) ι) → Least R base (λ x. T (ok x)) l
+      go : T (st .members l) ⊎ Own st′ l → ((ι : ℕ) → st′ .rank ι < n → T (st′ .members ι) → Least R base (λ x. T (ok x)) ι)
+          → Least R base (λ x. T (ok x)) l
       go (inl x) below = s l x
       go (inr o) below =
           ⊎-elim (λ (e : o .0 .groups ≡ []). by-fact (o .0) (o .1 .0) (o .1 .1) (o .2) e)

@@ -59,11 +59,13 @@ head∈ : (R : List Rule) (ρ : Rule) → ρ ∈ R → ρ .head ∈ heads R
 unfolding heads
 head∈ [] ρ m = absurd (List·Memᴰ·not-nil m)
 head∈ (σ ∷ R) ρ m =
-    ⊎-elim (λ (e : ρ ≡ σ). List·Memᴰ·head (ap (λ (z : Rule). z .head) e)) (λ (k : ρ ∈ R). List·Memᴰ·tail (head∈ R ρ k)) (List·Memᴰ·cases-cons m)
+    ⊎-elim (λ (e : ρ ≡ σ). List·Memᴰ·head (ap (λ (z : Rule). z .head) e))
+    (λ (k : ρ ∈ R). List·Memᴰ·tail (head∈ R ρ k)) (List·Memᴰ·cases-cons m)
 
 module _ (R : List Rule) (M : Interpretation) (before : ℕ → ℕ → Type 0) (ws : WellSupportedBy R M before) where
   -- in a model a rule that is a fact or has a group wholly in M has its head in M
-  model-head : (ρ : Rule) → ρ ∈ R → (ρ .groups ≡ []) ⊎ ((β : List ℕ) × (β ∈ ρ .groups) × ((ι : ℕ) → ι ∈ β → T (M ι))) → T (M (ρ .head))
+  model-head : (ρ : Rule) → ρ ∈ R
+      → (ρ .groups ≡ []) ⊎ ((β : List ℕ) × (β ∈ ρ .groups) × ((ι : ℕ) → ι ∈ β → T (M ι))) → T (M (ρ .head))
   model-head ρ m f =
       2≤→member M (ρ .head)
       (implies-holds (bodyValue M (ρ .groups)) (value M (ρ .head)) (ws .model ρ m)
@@ -130,7 +132,8 @@ module _ (R : List Rule) (M : Interpretation) (before : ℕ → ℕ → Type 0) 
         ⊎-elim (λ (h : Held R A (positive a) × Held R A (negative a)). (held⊆ (positive a) (h .0), held⊆ (negative a) (h .1)))
         (⊎-elim (λ (h : HeldNotClean R A (positive a)). let b = held-not-clean→both (positive a) h in
         (b .0, subst (λ (z : ℕ). T (M z)) (negation-positive a) (b .1)))
-        (λ (h : HeldNotClean R A (negative a)). let b = held-not-clean→both (negative a) h in (subst (λ (z : ℕ). T (M z)) (negation-negative a) (b .1), b .0)))
+        (λ (h : HeldNotClean R A (negative a)). let b = held-not-clean→both (negative a) h in
+        (subst (λ (z : ℕ). T (M z)) (negation-negative a) (b .1), b .0)))
         (c .because)
 
   -- each marked atom is i in M

@@ -62,7 +62,8 @@ abbrev model : Example → Interpretation
 model e = heldSet (e .rules) (settledMarks (e .rules) (atomsOf (e .rules)))
 
 -- a set with a literal that the smallest model lacks is not the smallest
-lacks : (e : Example) → T (distinct (e .rules)) → (J : Interpretation) (l : ℕ) → T (J l) → T (not (model e l)) → SmallestWellSupported (e .rules) J → ⊥
+lacks : (e : Example) → T (distinct (e .rules)) → (J : Interpretation) (l : ℕ)
+    → T (J l) → T (not (model e l)) → SmallestWellSupported (e .rules) J → ⊥
 unfolding smallestSet
 lacks e d J l m n i =
     T-not (model e l) n (i .contained (model e) (smallestSet-is-any (e .rules) (distinct→one (e .rules) d) .well-supported) l m)
@@ -81,7 +82,8 @@ says e d b v c also only =
     record {
       one-rule-per-head = one;
       smallest =
-          λ I i. ap (λ (J : Interpretation). valuesFrom J 0 (e .atoms)) (smallest-any-unique (e .rules) I (model e) i (smallestSet-is-any (e .rules) one)) ∙ v;
+          λ I i. ap (λ (J : Interpretation). valuesFrom J 0 (e .atoms)) (smallest-any-unique (e .rules) I (model e) i (smallestSet-is-any (e .rules) one))
+          ∙ v;
       exists = (model e, smallestSet-is-any (e .rules) one);
       marks-made = made;
       settles = (A, subst (λ (n : ℕ). Marking (e .rules) n A) (made (k .0) A (k .1) (k .2)) (k .1), k .2);

@@ -120,7 +120,8 @@ module _ (R : List Rule) (N : ℕ) (below : HeadsBelow N R) where
   settle-is (suc fuel) n A k h = go (search (canBeMarked R A) N) (search-is (canBeMarked R A) N) (λ m B k′ h′. settle-is fuel m B k′ h′)
     where
       go : (f : Found) → FoundIs (canBeMarked R A) N f
-          → ((m : ℕ) (B : Marks) → Marking R m B → N ≤ m + fuel → (m′ : ℕ) × Marking R m′ (settle R N fuel B) × Settled R (settle R N fuel B))
+          → ((m : ℕ) (B : Marks) → Marking R m B → N ≤ m + fuel
+          → (m′ : ℕ) × Marking R m′ (settle R N fuel B) × Settled R (settle R N fuel B))
           → (m : ℕ) × Marking R m (andOn (λ B. settle R N fuel B) A f) × Settled R (andOn (λ B. settle R N fuel B) A f)
       go nowhere w next =
           (n, k, λ a c. T-not (canBeMarked R A a) (w a (can-be-marked-below R N below A a c)) (→canBeMarked R A a c))
@@ -151,7 +152,8 @@ module _ (R : List Rule) (N : ℕ) (below : HeadsBelow N R) where
       go (found a) w = inr (a, canBeMarked→ R A a w)
 
   -- until settled a pass over all atoms marks at least one
-  pub pass-marks-one : (A B : Marks) (l : List ℕ) → ((a : ℕ) → a < N → a ∈ l) → (Settled R A → ⊥) → Pass R A l B → (a : ℕ) × CanBeMarked R A a × Marked B a
+  pub pass-marks-one : (A B : Marks) (l : List ℕ) → ((a : ℕ) → a < N → a ∈ l)
+      → (Settled R A → ⊥) → Pass R A l B → (a : ℕ) × CanBeMarked R A a × Marked B a
   pass-marks-one A B l all n p =
       ⊎-elim (λ (s : Settled R A). absurd (n s))
       (λ (x : (a : ℕ) × CanBeMarked R A a). (x .0, x .1, pass-marks R p (x .0) (all (x .0) (can-be-marked-below R N below A (x .0) (x .1))) (x .1)))

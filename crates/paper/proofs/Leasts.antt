@@ -14,7 +14,8 @@ use Rattle.sets.proofs.Tests.{either}
 -- the least set is contained in every set that has base and is closed under the allowed rules
 pub least-contained : {R : List Rule} {base allowed : ℕ → Type 0} (S : ℕ → Type 0) → ((l : ℕ) → base l → S l)
     → ((l : ℕ) (ρ : Rule) → ρ ∈ R → ρ .head ≡ l → allowed l → ρ .groups ≡ [] → S l)
-    → ((l : ℕ) (ρ : Rule) (β : List ℕ) → ρ ∈ R → ρ .head ≡ l → allowed l → β ∈ ρ .groups → ((ι : ℕ) → ι ∈ β → S ι) → S l)
+    → ((l : ℕ) (ρ : Rule) (β : List ℕ) → ρ ∈ R → ρ .head ≡ l
+    → allowed l → β ∈ ρ .groups → ((ι : ℕ) → ι ∈ β → S ι) → S l)
     → {l : ℕ} → Least R base allowed l → S l
 least-contained S b f g {l} (from-base h) = b l h
 least-contained S b f g {l} (by-fact ρ m e a n) = f l ρ m e a n
@@ -22,7 +23,8 @@ least-contained S b f g {l} (by-group ρ β m e a k all) = g l ρ β m e a k (λ
 
 -- more rules, a larger base and more allowed heads give a larger least set
 pub least-mono : {R R′ : List Rule} {base base′ allowed allowed′ : ℕ → Type 0} → ((ρ : Rule) → ρ ∈ R → ρ ∈ R′)
-    → ((l : ℕ) → base l → base′ l) → ((l : ℕ) → allowed l → allowed′ l) → {l : ℕ} → Least R base allowed l → Least R′ base′ allowed′ l
+    → ((l : ℕ) → base l → base′ l) → ((l : ℕ) → allowed l → allowed′ l)
+    → {l : ℕ} → Least R base allowed l → Least R′ base′ allowed′ l
 least-mono {R′ = R′} {base′ = base′} {allowed′ = allowed′} r b a =
     least-contained (Least R′ base′ allowed′) (λ l h. from-base (b l h)) (λ l ρ m e k n. by-fact ρ (r ρ m) e (a l k) n)
     (λ l ρ β m e k g all. by-group ρ β (r ρ m) e (a l k) g all)

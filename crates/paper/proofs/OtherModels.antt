@@ -46,7 +46,8 @@ byPlace place x y = T (ltb (place x) (place y))
 
 -- all literals of N atoms, where each rests on a rule by (7) or (8)
 all-well-supported : (N : ℕ) (R : List Rule) (place : ℕ → ℕ) → Model R (allLiterals N)
-    → ((l : ℕ) → l ∈ downFrom (positive N) → SupportsRuleOf R (allLiterals N) (byPlace place) l ⊎ RestsOnInconsistent R (allLiterals N) (byPlace place) l)
+    → ((l : ℕ) → l ∈ downFrom (positive N)
+    → SupportsRuleOf R (allLiterals N) (byPlace place) l ⊎ RestsOnInconsistent R (allLiterals N) (byPlace place) l)
     → WellSupported R (allLiterals N)
 all-well-supported N R place m f = (
   byPlace place,
@@ -87,7 +88,12 @@ P6-all =
     all-well-supported 2 (P6 .rules) placeP6 (each refl (each refl (each refl (λ ρ m. no-more m))))
     (each (inr (_, inr (List·Memᴰ·tail (List·Memᴰ·head refl), refl), refl, (_, List·Memᴰ·head refl, refl, each tt (λ ι m. no-more m))))
     (each (inr (_, inl (List·Memᴰ·tail (List·Memᴰ·head refl), refl), refl, (_, List·Memᴰ·head refl, refl, each tt (λ ι m. no-more m))))
-    (each (inr (_, inl (List·Memᴰ·tail (List·Memᴰ·tail (List·Memᴰ·head refl)), refl), refl, (_, List·Memᴰ·head refl, refl, each tt (λ ι m. no-more m))))
+    (each (inr (
+      _,
+      inl (List·Memᴰ·tail (List·Memᴰ·tail (List·Memᴰ·head refl)), refl),
+      refl,
+      (_, List·Memᴰ·head refl, refl, each tt (λ ι m. no-more m)),
+    ))
     (each (inl (_, (List·Memᴰ·head refl, refl), inl refl)) (λ l m. no-more m)))))
 
 -- neither rule(-p), which is not there, nor rule(p), whose body is t, serves -p

@@ -25,7 +25,8 @@ module _ (R : List Rule) (A : Marks) (I : Interpretation) (is-held : IsHeld R A 
   marked→𝐢 l m = both→𝐢 I l (marked→member l m) (marked→member (negation l) (rw (atom-negation l) m))
 
   -- a wholly held rule has its head held
-  pub held-head : (ρ : Rule) → ρ ∈ R → (ρ .groups ≡ []) ⊎ ((β : List ℕ) × (β ∈ ρ .groups) × (2 ≤ code (groupValue I β))) → T (I (ρ .head))
+  pub held-head : (ρ : Rule) → ρ ∈ R
+      → (ρ .groups ≡ []) ⊎ ((β : List ℕ) × (β ∈ ρ .groups) × (2 ≤ code (groupValue I β))) → T (I (ρ .head))
   held-head ρ m (inl e) = is-held (ρ .head) .1 (by-fact ρ m refl tt e)
   held-head ρ m (inr q) =
       is-held (ρ .head) .1 (by-group ρ (q .0) m refl tt (q .1) (λ ι i. is-held ι .0 (group-member I (q .0) (q .2) ι i)))
@@ -78,7 +79,8 @@ module _ (R : List Rule) (A : Marks) (I : Interpretation) (is-held : IsHeld R A 
         (λ (u : T (not (A (atom l)))). u) (either (A (atom l))))
 
     -- a body with a group of clean literals, or none, is t
-    pub clean-body-𝐭 : (ρ : Rule) → (ρ .groups ≡ []) ⊎ ((β : List ℕ) × (β ∈ ρ .groups) × ((ι : ℕ) → ι ∈ β → Clean R A ι)) → bodyValue I (ρ .groups) ≡ 𝐭
+    pub clean-body-𝐭 : (ρ : Rule) → (ρ .groups ≡ []) ⊎ ((β : List ℕ) × (β ∈ ρ .groups) × ((ι : ℕ) → ι ∈ β → Clean R A ι))
+        → bodyValue I (ρ .groups) ≡ 𝐭
     clean-body-𝐭 ρ (inl e) = body-of-fact I (ρ .groups) e
     clean-body-𝐭 ρ (inr q) =
         let t : groupValue I (q .0) ≡ 𝐭 = all-𝐭→group-𝐭 I (q .0) (λ ι i. clean→𝐭 ι (q .2 ι i)) in
@@ -88,7 +90,8 @@ module _ (R : List Rule) (A : Marks) (I : Interpretation) (is-held : IsHeld R A 
     -- the held literals are a model (Definition 6)
     pub settled-model : OneRulePerHead R → Model R I
     settled-model one ρ m =
-        split (leb (code (bodyValue I (ρ .groups))) 1) (λ t. leb→le (code (bodyValue I (ρ .groups))) 1 t) (λ t. nleb→lt (code (bodyValue I (ρ .groups))) 1 t)
+        split (leb (code (bodyValue I (ρ .groups))) 1) (λ t. leb→le (code (bodyValue I (ρ .groups))) 1 t)
+        (λ t. nleb→lt (code (bodyValue I (ρ .groups))) 1 t)
       where
         clean-head : Clean R A (ρ .head) → bodyValue I (ρ .groups) ≡ 𝐭
         clean-head (from-base h) = absurd h

@@ -21,7 +21,8 @@ pub test→any : (R : List Rule) (I : Interpretation) → WellSupportedByTest R 
 test→any R I w = ((λ x y. T (w .0 x y)), w .1)
 
 -- the held literals of a settled marking
-module _ (R : List Rule) (one : OneRulePerHead R) {n : ℕ} {A : Marks} (k : Marking R n A) (s : Settled R A) (I : Interpretation) (is-held : IsHeld R A I) where
+module _
+    (R : List Rule) (one : OneRulePerHead R) {n : ℕ} {A : Marks} (k : Marking R n A) (s : Settled R A) (I : Interpretation) (is-held : IsHeld R A I) where
   pub settled-smallest : Smallest R I
   settled-smallest =
       record {

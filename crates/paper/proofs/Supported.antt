@@ -69,7 +69,8 @@ module _ (R : List Rule) where
 
   -- a set that has the held literals and the newly marked ones, closed again
   close-again : (A : Marks) (a : ℕ) (st : Ranking) → Bounded st → ((l : ℕ) → T (st .members l) → Held R (A with a) l)
-      → ((l : ℕ) → T (st .members l) → Rests R (A with a) st l) → ((l : ℕ) → Marked (A with a) (atom l) → T (st .members l)) → RankedHeld R (A with a)
+      → ((l : ℕ) → T (st .members l) → Rests R (A with a) st l)
+      → ((l : ℕ) → Marked (A with a) (atom l) → T (st .members l)) → RankedHeld R (A with a)
   unfolding Rests
   close-again A a st b s r base =
       let o : Outcome R every st (close R every st) = close-outcome R every st b in
@@ -101,7 +102,8 @@ module _ (R : List Rule) where
       own-atom l e = rw e (with-itself A a)
 
       -- every literal of a marked atom is in a set that has the two of a
-      based : (s : Ranking) → Keeps st s → T (s .members (positive a)) → T (s .members (negative a)) → (l : ℕ) → Marked (A with a) (atom l) → T (s .members l)
+      based : (s : Ranking) → Keeps st s → T (s .members (positive a)) → T (s .members (negative a))
+          → (l : ℕ) → Marked (A with a) (atom l) → T (s .members l)
       based s k p n l m =
           ⊎-elim
           (λ (e : atom l ≡ a).
@@ -166,13 +168,15 @@ module _ (R : List Rule) where
           new-literal (negative a) (atom-negative a) n
           (rw (negation-negative a)
           (⊎-elim (λ (x : Held R A (positive a) × Held R A (negative a)). absurd (not-held (negative a) n (x .1)))
-          (⊎-elim (λ (x : HeldNotClean R A (positive a)). x) (λ (x : HeldNotClean R A (negative a)). absurd (not-held (negative a) n (x .0)))) (c .because)))
+          (⊎-elim (λ (x : HeldNotClean R A (positive a)). x) (λ (x : HeldNotClean R A (negative a)). absurd (not-held (negative a) n (x .0))))
+          (c .because)))
           (with-⊇ (st .members) (negative a) (positive a) p) (with-itself (st .members) (negative a))
       split (inr p) n =
           new-literal (positive a) (atom-positive a) p
           (rw (negation-positive a)
           (⊎-elim (λ (x : Held R A (positive a) × Held R A (negative a)). absurd (not-held (positive a) p (x .0)))
-          (⊎-elim (λ (x : HeldNotClean R A (positive a)). absurd (not-held (positive a) p (x .0))) (λ (x : HeldNotClean R A (negative a)). x)) (c .because)))
+          (⊎-elim (λ (x : HeldNotClean R A (positive a)). absurd (not-held (positive a) p (x .0))) (λ (x : HeldNotClean R A (negative a)). x))
+          (c .because)))
           (with-itself (st .members) (positive a)) (with-⊇ (st .members) (positive a) (negative a) (other (c .because)))
         where
           other : (Held R A (positive a) × Held R A (negative a)) ⊎ (HeldNotClean R A (positive a) ⊎ HeldNotClean R A (negative a))
@@ -261,7 +265,8 @@ module _ (R : List Rule) (one : OneRulePerHead R) (A : Marks) (settled : Settled
   held-before ι k m mk lt =
       let e = place-marked k mk in
       ⊎-elim (λ (mi : T (A (atom ι))). let e′ = place-marked ι mi in omega arith)
-      (λ (u : T (not (A (atom ι)))). let p = place-clean ι (unmarked→clean R A I is-held settled ι (in-I ι m) u) .1 in omega arith) (either (A (atom ι)))
+      (λ (u : T (not (A (atom ι)))). let p = place-clean ι (unmarked→clean R A I is-held settled ι (in-I ι m) u) .1 in
+      omega arith) (either (A (atom ι)))
 
   -- a t literal stands before a marked one
   clean-before : (ι k : ℕ) → Clean R A ι → Marked A (atom k) → place ι < place k
@@ -298,7 +303,8 @@ module _ (R : List Rule) (one : OneRulePerHead R) (A : Marks) (settled : Settled
       → β ∈ ρ .groups → ((ι : ℕ) → ι ∈ β → T (st .members ι) × (st .rank ι < st .rank k))
       → (bodyValue I (ρ .groups) ≡ 𝐭) ⊎ ((bodyValue I (ρ .groups) ≡ 𝐢) × Carries I (λ x y. T (before x y)) ρ 𝐢)
   rests-on ρ k r mk β b all =
-      split (leb 3 (code (bodyValue I (ρ .groups)))) (λ t. leb→le 3 (code (bodyValue I (ρ .groups))) t) (λ t. nleb→lt 3 (code (bodyValue I (ρ .groups))) t)
+      split (leb 3 (code (bodyValue I (ρ .groups)))) (λ t. leb→le 3 (code (bodyValue I (ρ .groups))) t)
+      (λ t. nleb→lt 3 (code (bodyValue I (ρ .groups))) t)
     where
       split : (c : Bool) → (T c → 3 ≤ code (bodyValue I (ρ .groups))) → (T (not c) → code (bodyValue I (ρ .groups)) < 3)
           → (bodyValue I (ρ .groups) ≡ 𝐭) ⊎ ((bodyValue I (ρ .groups) ≡ 𝐢) × Carries I (λ x y. T (before x y)) ρ 𝐢)
@@ -313,7 +319,8 @@ module _ (R : List Rule) (one : OneRulePerHead R) (A : Marks) (settled : Settled
           )
 
   -- a t body of l's own rule supports it (condition 7): its t group stands before every i literal
-  t-body-supports : (ρ : Rule) (l : ℕ) → IsRuleOf R l ρ → Marked A (atom l) → bodyValue I (ρ .groups) ≡ 𝐭 → Supports I (λ x y. T (before x y)) ρ
+  t-body-supports : (ρ : Rule) (l : ℕ) → IsRuleOf R l ρ → Marked A (atom l)
+      → bodyValue I (ρ .groups) ≡ 𝐭 → Supports I (λ x y. T (before x y)) ρ
   t-body-supports ρ l r m e =
       let c : code (bodyValue I (ρ .groups)) ≡ 3 = ap code e in
       ⊎-elim (λ (f : ρ .groups ≡ []). inl f)
@@ -322,7 +329,8 @@ module _ (R : List Rule) (one : OneRulePerHead R) (A : Marks) (settled : Settled
       inr (g .0, g .1, t, λ ι i. rw (r .1) (is-before ι l (clean-before ι l (𝐭→clean R A I is-held settled ι (group-𝐭 I (g .0) t ι i)) m))))
       (body-attained I 3 (omega arith) (ρ .groups) (omega arith))
 
-  supported-i : (l : ℕ) → T (I l) → value I l ≡ 𝐢 → SupportsRuleOf R I (λ x y. T (before x y)) l ⊎ RestsOnInconsistent R I (λ x y. T (before x y)) l
+  supported-i : (l : ℕ) → T (I l) → value I l ≡ 𝐢
+      → SupportsRuleOf R I (λ x y. T (before x y)) l ⊎ RestsOnInconsistent R I (λ x y. T (before x y)) l
   unfolding Rests NoClean st
   supported-i l m e = go (h .rests l (in-st l m))
     where
@@ -346,7 +354,8 @@ module _ (R : List Rule) (one : OneRulePerHead R) (A : Marks) (settled : Settled
           absurd
           (⊎-elim (λ (f : s .rule .groups ≡ []). s .no-clean .0 f)
           (λ (g : (β : List ℕ) × (β ∈ s .rule .groups) × (3 ≤ code (groupValue I β))).
-          s .no-clean .1 (g .0) (g .1) (λ ι i. 𝐭→clean R A I is-held settled ι (group-𝐭 I (g .0) (3≤code→𝐭 (groupValue I (g .0)) (g .2)) ι i)))
+          s .no-clean .1
+          (g .0) (g .1) (λ ι i. 𝐭→clean R A I is-held settled ι (group-𝐭 I (g .0) (3≤code→𝐭 (groupValue I (g .0)) (g .2)) ι i)))
           (body-attained I 3 (omega arith) (s .rule .groups) (omega arith))))
           (λ (x : (bodyValue I (s .rule .groups) ≡ 𝐢) × Carries I (λ x y. T (before x y)) (s .rule) 𝐢). inr (s .rule, inr (s .is-rule), x .0, x .1))
           (rests-on (s .rule) (negation l) (s .is-rule) (rw (atom-negation l) (v .0)) (s .group) (s .of-rule) (s .smaller))

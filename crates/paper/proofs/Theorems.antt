@@ -45,7 +45,8 @@ pub smallest-is-unique : (R : List Rule) (I J : Interpretation) → SmallestWell
 smallest-is-unique R I J i j = rooms-smallest.smallest-any-unique R I J i j
 
 -- 2. Any two settled markings so reached are equal
-pub order-never-matters : (R : List Rule) {n m : ℕ} (A B : Marks) → Marking R n A → Settled R A → Marking R m B → Settled R B → (a : ℕ) → A a ≡ B a
+pub order-never-matters : (R : List Rule) {n m : ℕ} (A B : Marks) → Marking R n A
+    → Settled R A → Marking R m B → Settled R B → (a : ℕ) → A a ≡ B a
 order-never-matters R A B k s k′ s′ = rooms-order.settled-equal R A B k s k′ s′
 
 -- the marks made are as many as the inconsistent atoms of the smallest model

@@ -14,7 +14,8 @@ use Rattle.records.specs.Records.{recordFault}
 use Rattle.values.specs.Values.{roomTooSmall}
 use Rattle.picks.specs.Faults.{atomFault, pickFault, settledFault, reportFault}
 
-pub pick-accepted : (r : MarkRecord) (t : List ℕ) (a : ℕ) → pickFault r t a ≡ Accepted → (recordFault r ≡ Accepted) × AcceptedTable (r .n) t × (a < r .n)
+pub pick-accepted : (r : MarkRecord) (t : List ℕ) (a : ℕ) → pickFault r t a ≡ Accepted
+    → (recordFault r ≡ Accepted) × AcceptedTable (r .n) t × (a < r .n)
 unfolding pickFault
 pick-accepted r t a e =
     let p = orElse-accepted (recordFault r) (orElse (tableCheck (r .n) t) (atomFault (r .n) a)) e in

@@ -75,7 +75,8 @@ module _ (N : ℕ) (t : List ℕ) (accepted : AcceptedTable N t) {l : List ℕ} 
   pub settled-never-refused : {answer : Decided} → SettledAllows r t answer → (f : Refusal) → answer ≡ Decided.Refused f → ⊥
   settled-never-refused o = settled-not-refused N t accepted r reached o
 
-  pub report-refused-before-settled : (room : List ℕ) → N ≤ length room → {answer : Checked} {room′ : List ℕ} → ReportAllows r t room answer room′
+  pub report-refused-before-settled : (room : List ℕ) → N ≤ length room
+      → {answer : Checked} {room′ : List ℕ} → ReportAllows r t room answer room′
       → (f : Refusal) → answer ≡ Checked.Refused f → (f ≡ not-settled) × (Settled (rulesOf t) (marksOf r) → ⊥)
   report-refused-before-settled room fits o = only-before-settled N t accepted r reached room fits o
 
@@ -91,7 +92,8 @@ module _ (N : ℕ) (t : List ℕ) (accepted : AcceptedTable N t) {l : List ℕ} 
       let w = reports N t accepted r (q .0) s room fits o in (
         w .0,
         w .1 .2
-            ∙ ap (λ v. written v N room) (fun-ext (settledValue-is-smallest (rulesOf t) (accepted-one-rule N t accepted) (q .1 .1) s I i (w .1 .0) (w .1 .1))),
+            ∙ ap
+            (λ v. written v N room) (fun-ext (settledValue-is-smallest (rulesOf t) (accepted-one-rule N t accepted) (q .1 .1) s I i (w .1 .0) (w .1 .1))),
       )
 
   -- and the count is the number of inconsistent atoms
@@ -112,11 +114,13 @@ module _ (N : ℕ) (t : List ℕ) (accepted : AcceptedTable N t) {l : List ℕ} 
       pass-marks-one (rulesOf t) N (accepted-heads N t accepted) (marksOf r) (marksOf r′) order all n (picks-pass N t accepted (q .0) p .1)
 
 -- so N passes settle
-pub n-passes-settle : (N : ℕ) (t : List ℕ) → AcceptedTable N t → {r : MarkRecord} → PickPasses t N N (noMarksFor N) r → Settled (rulesOf t) (marksOf r)
+pub n-passes-settle : (N : ℕ) (t : List ℕ) → AcceptedTable N t → {r : MarkRecord}
+    → PickPasses t N N (noMarksFor N) r → Settled (rulesOf t) (marksOf r)
 n-passes-settle N t accepted p = passes-settle (rulesOf t) N (accepted-heads N t accepted) (passes-passes N t accepted (fresh-for N) p .1)
 
 -- two lists of picks that settle leave equal records
-pub same-record : (N : ℕ) (t : List ℕ) → AcceptedTable N t → {l l′ : List ℕ} {r r′ : MarkRecord} → Picks t (noMarksFor N) l r → Picks t (noMarksFor N) l′ r′
+pub same-record : (N : ℕ) (t : List ℕ) → AcceptedTable N t → {l l′ : List ℕ} {r r′ : MarkRecord}
+    → Picks t (noMarksFor N) l r → Picks t (noMarksFor N) l′ r′
     → Settled (rulesOf t) (marksOf r) → Settled (rulesOf t) (marksOf r′) → r ≡ r′
 same-record N t accepted {r = r} {r′ = r′} picks picks′ s s′ =
     let q = picks-marking N t accepted picks in

@@ -45,7 +45,8 @@ module _ (r : MarkRecord) (t : List ℕ) where
   settled-determined (SettledAllows.answers-no e s) (SettledAllows.answers-yes e′ s′) = absurd (s s′)
   settled-determined (SettledAllows.answers-no e s) (SettledAllows.answers-no e′ s′) = refl
 
-  pub report-determined : (room : List ℕ) {a b : Checked} {x y : List ℕ} → ReportAllows r t room a x → ReportAllows r t room b y → (a ≡ b) × (x ≡ y)
+  pub report-determined : (room : List ℕ) {a b : Checked} {x y : List ℕ}
+      → ReportAllows r t room a x → ReportAllows r t room b y → (a ≡ b) × (x ≡ y)
   report-determined room (ReportAllows.refused {f} e) (ReportAllows.refused {f = g} e′) = let q : f ≡ g = cc in (ap Checked.Refused q, refl)
   report-determined room (ReportAllows.refused {f} e) (ReportAllows.before-settled e′ n) = absurd (refused≢accepted f (sym e ∙ e′))
   report-determined room (ReportAllows.refused {f} e) (ReportAllows.reported e′ s H h) = absurd (refused≢accepted f (sym e ∙ e′))

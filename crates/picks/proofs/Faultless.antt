@@ -50,8 +50,10 @@ module _ (N : ℕ) (t : List ℕ) (accepted : AcceptedTable N t) (r : MarkRecord
   only-before-settled room h (ReportAllows.before-settled e n) g same = (cc, n)
   only-before-settled room h (ReportAllows.reported e s H i) g same = absurd (let z : _≡_ {A = ℕ} 0 1 = cc in omega arith)
 
-  pub reports : Settled (rulesOf t) (marksOf r) → (room : List ℕ) → N ≤ length room → {answer : Checked} {room′ : List ℕ} → ReportAllows r t room answer room′
-      → (answer ≡ Checked.Accepted) × ((H : Interpretation) × IsHeld (rulesOf t) (marksOf r) H × (room′ ≡ written (settledValue (marksOf r) H) N room))
+  pub reports : Settled (rulesOf t) (marksOf r) → (room : List ℕ) → N ≤ length room
+      → {answer : Checked} {room′ : List ℕ} → ReportAllows r t room answer room′
+      → (answer ≡ Checked.Accepted)
+      × ((H : Interpretation) × IsHeld (rulesOf t) (marksOf r) H × (room′ ≡ written (settledValue (marksOf r) H) N room))
   reports s room h (ReportAllows.refused {f} e) = absurd (refused≢accepted f (sym e ∙ report-not-refused (length room) h))
   reports s room h (ReportAllows.before-settled e n) = absurd (n s)
   reports s room h (ReportAllows.reported e s′ H i) = (refl, (H, i, ap (λ (n : ℕ). written (settledValue (marksOf r) H) n room) (g .same-n)))

@@ -45,7 +45,8 @@ module _ (N : ℕ) (t : List ℕ) (accepted : AcceptedTable N t) where
   -- its record has no fault
   pub record-for-good : (r : MarkRecord) → RecordFor N r → recordFault r ≡ Accepted
   record-for-good r g =
-      good-record r (subst⁻¹ (λ (n : ℕ). n ≤ 512) (g .same-n) (accepted-atoms N t accepted)) (λ b h m. subst⁻¹ (λ (n : ℕ). b < n) (g .same-n) (g .below b m))
+      good-record r (subst⁻¹ (λ (n : ℕ). n ≤ 512) (g .same-n) (accepted-atoms N t accepted))
+      (λ b h m. subst⁻¹ (λ (n : ℕ). b < n) (g .same-n) (g .below b m))
 
   -- an atom below N is not refused
   pub pick-not-refused : (r : MarkRecord) → RecordFor N r → (a : ℕ) → a < N → pickFault r t a ≡ Accepted
@@ -59,7 +60,8 @@ module _ (N : ℕ) (t : List ℕ) (accepted : AcceptedTable N t) where
   step {r} {a = a} g (PickAllows.refused {f} e) = (
     g,
     λ rest B p.
-        leaves (λ c. refused≢accepted f (sym e ∙ pick-not-refused r g a (can-be-marked-below (rulesOf t) N (accepted-heads N t accepted) (marksOf r) a c))) p,
+        leaves
+        (λ c. refused≢accepted f (sym e ∙ pick-not-refused r g a (can-be-marked-below (rulesOf t) N (accepted-heads N t accepted) (marksOf r) a c))) p,
   )
   step {r} {a = a} g (PickAllows.already-marked e m) = (g, λ rest B p. leaves (λ c. T-not (marksOf r a) (c .unmarked) m) p)
   step {r} {a = a} g (PickAllows.cannot-be-marked-now e u n) = (g, λ rest B p. leaves n p)
@@ -73,20 +75,23 @@ module _ (N : ℕ) (t : List ℕ) (accepted : AcceptedTable N t) where
           eight = length-putIn (r .marks) a ∙ g .eight;
           words = words-putIn (r .marks) a (g .words);
           below = λ b h.
-              ⊎-elim (λ (x : b ≡ a). rw x lt) (λ (x : T (marksOf r b)). g .below b x) (with-cases (marksOf r) a b (subst (λ (A : ℕ → Bool). T (A b)) m h));
+              ⊎-elim (λ (x : b ≡ a). rw x lt) (λ (x : T (marksOf r b)). g .below b x)
+              (with-cases (marksOf r) a b (subst (λ (A : ℕ → Bool). T (A b)) m h));
         },
         λ rest B p. marks c (subst (λ (A : ℕ → Bool). Pass (rulesOf t) A rest B) m p),
       )
 
   -- a list of picks is a pass
-  pub picks-pass : {r r′ : MarkRecord} {l : List ℕ} → RecordFor N r → Picks t r l r′ → RecordFor N r′ × Pass (rulesOf t) (marksOf r) l (marksOf r′)
+  pub picks-pass : {r r′ : MarkRecord} {l : List ℕ} → RecordFor N r → Picks t r l r′
+      → RecordFor N r′ × Pass (rulesOf t) (marksOf r) l (marksOf r′)
   picks-pass g no-picks = (g, end)
   picks-pass g (then-picks {r″ = r″} {rest = rest} p ps) =
       let s = step g p in
       let q = picks-pass (s .0) ps in
       (q .0, s .1 rest (marksOf r″) (q .1))
 
-  pub passes-passes : {k : ℕ} {r r′ : MarkRecord} → RecordFor N r → PickPasses t N k r r′ → RecordFor N r′ × Passes (rulesOf t) N k (marksOf r) (marksOf r′)
+  pub passes-passes : {k : ℕ} {r r′ : MarkRecord} → RecordFor N r → PickPasses t N k r r′
+      → RecordFor N r′ × Passes (rulesOf t) N k (marksOf r) (marksOf r′)
   passes-passes g PickPasses.no-pass = (g, no-pass)
   passes-passes g (PickPasses.then-pass l ps all p) =
       let q = passes-passes g ps in

@@ -29,7 +29,8 @@ refused-is-no-literal r l e = let z : _≡_ {A = ℕ} 0 1 = cc in omega arith
 pub end-is-no-literal : (l : SheetLiteral) → End ≡ Literal l → ⊥
 end-is-no-literal l e = let z : _≡_ {A = ℕ} 0 1 = cc in omega arith
 
-demanding-literal : (b : Bool) (r : Refusal) (rest : Reading) (l : SheetLiteral) → demanding Refused b r rest ≡ Literal l → (b ≡ true) × (rest ≡ Literal l)
+demanding-literal : (b : Bool) (r : Refusal) (rest : Reading) (l : SheetLiteral)
+    → demanding Refused b r rest ≡ Literal l → (b ≡ true) × (rest ≡ Literal l)
 demanding-literal b r rest l e = demanding-met Refused b r rest (Literal l) (refused-is-no-literal r l) e
 
 -- the role that the byte before gives
@@ -208,7 +209,8 @@ stays (Literal l) p h = absurd h
 pub same-again : (s : List ℕ) (p : ℕ) (x y : Next) → x ≡ nextAt s p → y ≡ nextAt s (x .place) → NoLiteral (x .reading) → y ≡ x
 unfolding nextAt
 same-again s p x y e e′ h =
-    e′ ∙ ap (λ (z : Next). nextAt s (z .place)) e ∙ ap (nextAt s) (stays (readingAt s p) p (subst NoLiteral (ap (λ (z : Next). z .reading) e) h)) ∙ sym e
+    e′ ∙ ap (λ (z : Next). nextAt s (z .place)) e
+    ∙ ap (nextAt s) (stays (readingAt s p) p (subst NoLiteral (ap (λ (z : Next). z .reading) e) h)) ∙ sym e
 
 reached-stays : (s : List ℕ) (n p : ℕ) → NoLiteral (readingAt s p) → reached s p n ≡ p
 unfolding nextAt

@@ -14,7 +14,8 @@ marks-go-on A at (suc l) b lt e f inv =
     let n : suc l - 1 ≡ l = omega arith in
     rw (n, add-one at) (sym (ap (λ (x : Bool). x || marksFrom A (suc at) l) (sym e ∙ f)) ∙ inv)
 
-pub marks-found : (A : ℕ → Bool) (at left : ℕ) (b : Bool) → 0 < left → b ≡ A at → b ≡ true → {whole : Bool} → marksFrom A at left ≡ whole → true ≡ whole
+pub marks-found : (A : ℕ → Bool) (at left : ℕ) (b : Bool) → 0 < left
+    → b ≡ A at → b ≡ true → {whole : Bool} → marksFrom A at left ≡ whole → true ≡ whole
 unfolding marksFrom
 marks-found A at zero b lt e f inv = absurd (omega arith)
 marks-found A at (suc l) b lt e f inv = sym (ap (λ (x : Bool). x || marksFrom A (suc at) l) (sym e ∙ f)) ∙ inv

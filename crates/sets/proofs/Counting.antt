@@ -95,7 +95,8 @@ count-mono (suc n) S S′ f = go (S n) (S′ n) (f n (omega arith)) (count-mono 
     go false false g h = omega arith
 
 -- one member more at the least, a larger count
-pub count-less : (N : ℕ) (S S′ : ℕ → Bool) → ((a : ℕ) → T (S a) → T (S′ a)) → (a : ℕ) → a < N → T (not (S a)) → T (S′ a) → count N S < count N S′
+pub count-less : (N : ℕ) (S S′ : ℕ → Bool) → ((a : ℕ) → T (S a) → T (S′ a))
+    → (a : ℕ) → a < N → T (not (S a)) → T (S′ a) → count N S < count N S′
 count-less N S S′ s a h u m =
     let e = count-with N S a h u in
     let k = count-mono N (S with a) S′ (λ b lt x. with-⊆ S S′ a s m b x) in

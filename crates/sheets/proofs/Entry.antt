@@ -35,7 +35,8 @@ use Rattle.sheets.specs.SheetEntry.{sheetOf, counts, SheetAllows}
 use Rattle.sheets.specs.Holding.{Holding, Valued}
 use Rattle.sheets.proofs.Values.{same-lines, written-at, no-fault, in-buffer, printed-whole, printed-nothing}
 
-allows : (s : List ℕ) (wordRoom nameRoom : ℕ) (text : List ℕ) {a a′ : SheetAnswer} {u u′ m m′ t t′ : List ℕ} → a ≡ a′ → u ≡ u′ → m ≡ m′ → t ≡ t′
+allows : (s : List ℕ) (wordRoom nameRoom : ℕ) (text : List ℕ) {a a′ : SheetAnswer} {u u′ m m′ t t′ : List ℕ}
+    → a ≡ a′ → u ≡ u′ → m ≡ m′ → t ≡ t′
     → SheetAllows s wordRoom nameRoom text a u m t → SheetAllows s wordRoom nameRoom text a′ u′ m′ t′
 allows s wordRoom nameRoom text {a} {a′} {u} {u′} {m} {m′} {t} {t′} e f g h r =
     subst (λ (y : List ℕ). SheetAllows s wordRoom nameRoom text a′ u′ m′ y) h
@@ -115,7 +116,8 @@ module _ (s : List ℕ) (wordRoom nameRoom n w : ℕ) (ws ns heads : List ℕ) (
       record {
         model = got .0;
         smallest = λ x f. subst (λ (R : List Rule). Smallest R (got .0))
-            (ap rulesOf words-taken ∙ sheet-table-rules (held .sofar) ∙ ap (λ (y : Sofar). y .rules) (accepted-once (held .sofar) x (sym (held .is) ∙ f)))
+            (ap rulesOf words-taken ∙ sheet-table-rules (held .sofar)
+            ∙ ap (λ (y : Sofar). y .rules) (accepted-once (held .sofar) x (sym (held .is) ∙ f)))
             (got .1);
         codes = λ a h. ap (λ (t : List ℕ). getD t a 0) (got .2) ∙ written-at (λ b. value (got .0) (positive b)) n room a h;
       }
@@ -160,7 +162,8 @@ module _ (s : List ℕ) (wordRoom nameRoom : ℕ) (filled : Filled) (ws ns heads
       refused-by s wordRoom nameRoom r text ws ns heads (sheetOutcome s wordRoom nameRoom) refl
       (subst (λ (f : Filled). ReadInto (sheetOutcome s wordRoom nameRoom) wordRoom nameRoom f ws ns heads) e into)
 
-  pub holds-there : (n w : ℕ) → filled ≡ Read n w → length ws ≡ wordRoom → length ns ≡ nameRoom → Holding s (length ws) (length ns) n w ws ns heads
+  pub holds-there : (n w : ℕ) → filled ≡ Read n w → length ws ≡ wordRoom
+      → length ns ≡ nameRoom → Holding s (length ws) (length ns) n w ws ns heads
   holds-there n w e h h′ = subst₂ (λ (x y : ℕ). Holding s x y n w ws ns heads) (sym h) (sym h′) (holds n w e)
 
 -- the buffers have kept their lengths

@@ -68,7 +68,8 @@ module _ (s : List ℕ) (wordRoom nameRoom : ℕ) (text : List ℕ) where
   sheet-determined (SheetAllows.does-not-fit {x} {I} e i h) (SheetAllows.accepted {x = y} {I = J} e′ j h′) =
       let same = same-sheet s wordRoom nameRoom x y I J e e′ i j in
       absurd (omega (arith, h, h′, ap₂ (λ (z : Sofar) (K : Interpretation). length (sheetOf s z K)) (same .0) (same .1)))
-  sheet-determined (SheetAllows.accepted {x} {I} e i h) (SheetAllows.never-settles {x = y} e′ A m n) = absurd (n (sheet-settles s wordRoom nameRoom y e′ A m))
+  sheet-determined (SheetAllows.accepted {x} {I} e i h) (SheetAllows.never-settles {x = y} e′ A m n) =
+      absurd (n (sheet-settles s wordRoom nameRoom y e′ A m))
   sheet-determined (SheetAllows.accepted {x} {I} e i h) (SheetAllows.refused {f} e′) = absurd (accepted-is-not-refused x f (sym e ∙ e′))
   sheet-determined (SheetAllows.accepted {x} {I} e i h) (SheetAllows.does-not-fit {x = y} {I = J} e′ j h′) =
       let same = same-sheet s wordRoom nameRoom x y I J e e′ i j in

@@ -30,7 +30,8 @@ pub same-lines : (s : List ℕ) (heads : ℕ → Bool) (v v′ : ℕ → ℕ) (a
 unfolding linesFrom
 same-lines s heads v v′ a [] e = refl
 same-lines s heads v v′ a (x ∷ es) e =
-    ap₂ (λ (y : ℕ) (t : List ℕ). lineIf (hasLine heads a) s x y ++ t) (e a (omega arith)) (same-lines s heads v v′ (suc a) es (λ b h. e b (omega arith)))
+    ap₂ (λ (y : ℕ) (t : List ℕ). lineIf (hasLine heads a) s x y ++ t)
+    (e a (omega arith)) (same-lines s heads v v′ (suc a) es (λ b h. e b (omega arith)))
 
 code-at : (v : ℕ → Value) (a n b : ℕ) → b < n → getD (codesFrom v a n) b 0 ≡ code (v (a + b))
 unfolding codesFrom
@@ -65,7 +66,8 @@ whole-is-no-refusal : (n : ℕ) (r : Refusal) → Whole n ≡ DoesNotFit r → �
 whole-is-no-refusal n r e = let z : _≡_ {A = ℕ} 0 1 = cc in omega arith
 
 module _ (out text text′ : List ℕ) (p : Printed) (answer : p ≡ printing out (length text)) (after : text′ ≡ textAfter out text) where
-  pub printed-whole : (bytes : ℕ) → p ≡ Whole bytes → (length out ≤ length text) × (bytes ≡ length out) × (text′ ≡ out ++ drop (length out) text)
+  pub printed-whole : (bytes : ℕ) → p ≡ Whole bytes
+      → (length out ≤ length text) × (bytes ≡ length out) × (text′ ≡ out ++ drop (length out) text)
   unfolding printing textAfter
   printed-whole bytes e = by (leb (length out) (length text)) refl (sym e ∙ answer) after
     where

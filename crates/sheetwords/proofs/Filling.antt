@@ -103,7 +103,8 @@ afterBy a c l sofar =
 
 module _
     (sofar : Sofar) (k : Counts) (ws ns heads : List ℕ) (kept : Kept sofar k ws ns heads) (l : SheetLiteral) (at : Standing (l .role) k (sofar .rules)) where
-  keeps-by : (a c : ℕ) (k′ : Counts) (ws′ ns′ heads′ : List ℕ) → c < 1024 → namesWith a (k .atoms) ≤ 512 → k .words + wordsFor (l .role) ≤ 8192
+  keeps-by : (a c : ℕ) (k′ : Counts) (ws′ ns′ heads′ : List ℕ) → c < 1024
+      → namesWith a (k .atoms) ≤ 512 → k .words + wordsFor (l .role) ≤ 8192
       → Put a c l k ws ns heads k′ ws′ ns′ heads′ → Kept (afterBy a c l sofar) k′ ws′ ns′ heads′
   keeps-by a c k′ ws′ ns′ heads′ small names-fit words-fit put =
       let ws-length = ap length (put .words-are) ∙ words-length (l .role) c k ws in
@@ -182,7 +183,8 @@ left-rule Head k R h = h
 left-rule First k R h = h .0
 left-rule Further k R h = h .0
 
-next-stands : (role next : Role) (b : ℕ) (k : Counts) (R : List Rule) → mayFollow role b ≡ true → RoleAfter b next → Left role k R → Standing next k R
+next-stands : (role next : Role) (b : ℕ) (k : Counts) (R : List Rule)
+    → mayFollow role b ≡ true → RoleAfter b next → Left role k R → Standing next k R
 next-stands role Head b k R e is h = tt
 next-stands role First b k R e is h = left-rule role k R h
 next-stands Head Further b k R e is h = absurd (no-space-after-a-head b e is)
@@ -227,7 +229,8 @@ starts-kept k ws ns heads e h h′ ws-zero ns-zero heads-zero = record {
       (record { atoms = omega arith; words = omega arith; rule = omega arith; group = omega arith; word-buffer = h; name-buffer = h′ });
 }
 
-pub starts : (s : List ℕ) (k : Counts) (ws ns heads : List ℕ) → k ≡ record { atoms = 0; words = 0; rule = 0; group = 0 } → 8192 ≤ length ws → 512 ≤ length ns
+pub starts : (s : List ℕ) (k : Counts) (ws ns heads : List ℕ)
+    → k ≡ record { atoms = 0; words = 0; rule = 0; group = 0 } → 8192 ≤ length ws → 512 ≤ length ns
     → ws ≡ padded (length ws) [] → ns ≡ padded (length ns) [] → heads ≡ replicate 16 0
     → Filling s (sheetFrom (length s + 1) s 0 nothing) 0 k ws ns heads
 unfolding byteBefore
@@ -247,7 +250,8 @@ starts s k ws ns heads e h h′ ws-zero ns-zero heads-zero = record {
     begins Further is = absurd (omega (arith, is))
 
 -- one reading more
-step : (s : List ℕ) (fuel p : ℕ) (sofar : Sofar) (r : Reading) (whole : Outcome) → p ≤ length s → length s < p + fuel → sheetFrom fuel s p sofar ≡ whole
+step : (s : List ℕ) (fuel p : ℕ) (sofar : Sofar) (r : Reading) (whole : Outcome)
+    → p ≤ length s → length s < p + fuel → sheetFrom fuel s p sofar ≡ whole
     → readingAt s p ≡ r → (n : ℕ) × (fuel ≡ suc n) × (byReading s p sofar r (sheetFrom n s (placeAfter r p)) ≡ whole)
 unfolding sheetFrom
 step s zero p sofar r whole h h′ e is = absurd (omega arith)

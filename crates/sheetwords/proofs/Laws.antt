@@ -95,7 +95,11 @@ good-changed f N seen other (ρ ∷ σ ∷ R) some g b = (g .0, g .1, g .2, good
 
 one-literal : (N c : ℕ) → c < 2 * N → GroupWithin N (c ∷ [])
 one-literal N c h =
-    record { not-empty = omega arith; at-most-64 = omega arith; literals-below = λ l m. subst (λ (x : ℕ). x < 2 * N) (sym (List·Memᴰ·eq-of-singleton m)) h }
+    record {
+      not-empty = omega arith;
+      at-most-64 = omega arith;
+      literals-below = λ l m. subst (λ (x : ℕ). x < 2 * N) (sym (List·Memᴰ·eq-of-singleton m)) h;
+    }
 
 more-literals : (N c : ℕ) (β : List ℕ) → c < 2 * N → length β + 1 ≤ 64 → GroupWithin N β → GroupWithin N (β ++ (c ∷ []))
 more-literals N c β h short g = record {
@@ -210,7 +214,8 @@ sound-step s n p sofar x onward (Literal l) is ready sound e =
     let at = ready (l .role) (literal-read s p l is .in-role) in
     onward (placeAfter (Literal l) p) (after s sofar l) (readies s p sofar l is ready) (sound-after s p sofar l at (both .0) sound) (both .1)
 
-sound-from : (n : ℕ) (s : List ℕ) (p : ℕ) (sofar x : Sofar) → ReadyAt s p (sofar .rules) → Sound sofar → sheetFrom n s p sofar ≡ accepted x → Sound x
+sound-from : (n : ℕ) (s : List ℕ) (p : ℕ) (sofar x : Sofar) → ReadyAt s p (sofar .rules)
+    → Sound sofar → sheetFrom n s p sofar ≡ accepted x → Sound x
 unfolding sheetFrom
 sound-from zero s p sofar x ready sound e = subst Sound (accepted-once sofar x e) sound
 sound-from (suc n) s p sofar x ready sound e =
@@ -239,7 +244,8 @@ sound-sheet s wordRoom nameRoom x e =
     (demanding-accepted (leb 8192 wordRoom && leb 512 nameRoom) _ _ x (demanding-accepted (leb (length s) 65536) _ _ x e .1) .1)
 
 -- the rules of an accepted sheet are within document 01's limits
-pub sheet-within : (s : List ℕ) (wordRoom nameRoom : ℕ) (x : Sofar) → sheetOutcome s wordRoom nameRoom ≡ accepted x → Within (length (x .names)) (x .rules)
+pub sheet-within : (s : List ℕ) (wordRoom nameRoom : ℕ) (x : Sofar)
+    → sheetOutcome s wordRoom nameRoom ≡ accepted x → Within (length (x .names)) (x .rules)
 sheet-within s wordRoom nameRoom x e =
     let sound = sound-sheet s wordRoom nameRoom x e in
     record {

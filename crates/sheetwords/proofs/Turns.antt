@@ -50,7 +50,8 @@ unfolding nextAt
 place-is s p next r e is = ap (λ (x : Next). x .place) e ∙ ap (λ (x : Reading). placeAfter x p) (sym (ap (λ (x : Next). x .reading) e) ∙ is)
 
 -- the name of a literal that was read lies in the sheet
-pub name-fits : (s : List ℕ) (p : ℕ) (next : Next) (l : SheetLiteral) → next ≡ nextAt s p → next .reading ≡ Literal l → (l .start ≤ 65536) × (l .len ≤ 24)
+pub name-fits : (s : List ℕ) (p : ℕ) (next : Next) (l : SheetLiteral) → next ≡ nextAt s p
+    → next .reading ≡ Literal l → (l .start ≤ 65536) × (l .len ≤ 24)
 name-fits s p next l e is =
     let known = literal-read s p l (read-is s p next (Literal l) e is) in
     (omega (arith, known .sheet-fits, known .named .inside), known .named .at-most-24)
@@ -79,7 +80,8 @@ module _ (s : List ℕ) (whole : Outcome) (p : ℕ) (k : Counts) (ws ns heads : 
   pub stops : (x : Refusal) → next .reading ≡ ReadRefused x → FilledBy whole (NotRead x) ws ns heads
   stops x is = nothing-filled x ws ns heads (at-refusal s whole p k ws ns heads inv x (read-is s p next (ReadRefused x) e is))
 
-  module _ (l : SheetLiteral) (is : next .reading ≡ Literal l) (r : Taken) (ws′ ns′ heads′ : List ℕ) (took : Took s p l k ws ns heads r ws′ ns′ heads′) where
+  module _ (l : SheetLiteral) (is : next .reading ≡ Literal l) (r : Taken)
+      (ws′ ns′ heads′ : List ℕ) (took : Took s p l k ws ns heads r ws′ ns′ heads′) where
     pub faults : (x : Refusal) → r ≡ Off x → FilledBy whole (NotRead x) ws′ ns′ heads′
     faults x off = by (faultIn s k ws ns heads p l) refl
       where
@@ -122,7 +124,8 @@ filled-stays (accepted sofar) r ws ns heads n w room room′ by e h h′ = recor
 }
 filled-stays (refused x) r ws ns heads n w room room′ by e h h′ = absurd (read-is-not-refused n w x (sym e ∙ by .answer))
 
-pub nothing-stays : (o : Outcome) (r : Filled) (ws ns heads ws′ ns′ heads′ : List ℕ) (x : Refusal) (room room′ : ℕ) → FilledBy o r ws ns heads → r ≡ NotRead x
+pub nothing-stays : (o : Outcome) (r : Filled) (ws ns heads ws′ ns′ heads′ : List ℕ) (x : Refusal) (room room′ : ℕ)
+    → FilledBy o r ws ns heads → r ≡ NotRead x
     → ws′ ≡ padded room [] → ns′ ≡ padded room′ [] → heads′ ≡ padded 16 [] → ReadInto o room room′ (NotRead x) ws′ ns′ heads′
 unfolding padded
 nothing-stays (accepted sofar) r ws ns heads ws′ ns′ heads′ x room room′ by e h h′ h″ = absurd (read-is-not-refused _ _ x (sym (by .answer) ∙ e))
@@ -136,7 +139,8 @@ nothing-stays (refused y) r ws ns heads ws′ ns′ heads′ x room room′ by e
     }
 
 -- 8 and 9
-refused-into : (x : Refusal) (room room′ : ℕ) (ws ns heads : List ℕ) (o : Outcome) → o ≡ refused x → ws ≡ padded room [] → ns ≡ padded room′ []
+refused-into : (x : Refusal) (room room′ : ℕ) (ws ns heads : List ℕ) (o : Outcome)
+    → o ≡ refused x → ws ≡ padded room [] → ns ≡ padded room′ []
     → heads ≡ replicate 16 0 → ReadInto o room room′ (NotRead x) ws ns heads
 refused-into x room room′ ws ns heads o e h h′ h″ = record {
   answer = ap filledBy (sym e);
@@ -159,7 +163,8 @@ module _ (s : List ℕ) (room room′ : ℕ) (ws ns heads : List ℕ) where
   unfolding sheetOutcome
   short-words h h′ = refused-into buffer-too-small room room′ ws ns heads _
       (ap₂ (λ (b b′ : Bool). demanding refused b sheet-too-long
-      (demanding refused (b′ && leb 512 room′) buffer-too-small (sheetFrom (length s + 1) s 0 nothing))) (le-leb (length s) 65536 h) (lt-leb 8192 room h′))
+      (demanding refused (b′ && leb 512 room′) buffer-too-small (sheetFrom (length s + 1) s 0 nothing)))
+      (le-leb (length s) 65536 h) (lt-leb 8192 room h′))
 
   pub short-names : length s ≤ 65536 → room′ < 512 → ws ≡ padded room [] → ns ≡ padded room′ []
       → heads ≡ replicate 16 0 → ReadInto (sheetOutcome s room room′) room room′ (NotRead buffer-too-small) ws ns heads

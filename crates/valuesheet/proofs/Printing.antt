@@ -109,8 +109,10 @@ module _ (heads : ℕ → Bool) (names : List ℕ) (n a : ℕ) (fits : n ≤ len
   pub line-fits : (at whole : ℕ) → at + bytesFrom heads a (drop a (take n names)) ≡ whole → at + lineBytes shown e ≤ whole
   line-fits at whole inv = omega (arith, inv, bytes-of heads a (take n names) inside, ap₂ lineBytes is (sym entry-is))
 
-  pub lines-turn : (s : List ℕ) (values : ℕ → ℕ) (t t′ : List ℕ) (at line v : ℕ) → v ≡ values a → line ≡ lineBytes shown e → t′ ≡ sets t at (lineIf shown s e v)
-      → sets t′ (at + line) (linesFrom s heads values (a + 1) (drop (a + 1) (take n names))) ≡ sets t at (linesFrom s heads values a (drop a (take n names)))
+  pub lines-turn : (s : List ℕ) (values : ℕ → ℕ) (t t′ : List ℕ) (at line v : ℕ)
+      → v ≡ values a → line ≡ lineBytes shown e → t′ ≡ sets t at (lineIf shown s e v)
+      → sets t′ (at + line) (linesFrom s heads values (a + 1) (drop (a + 1) (take n names))) ≡ sets t
+      at (linesFrom s heads values a (drop a (take n names)))
   lines-turn s values t t′ at line v val l put =
       let rest = linesFrom s heads values (a + 1) (drop (a + 1) (take n names)) in
       ap₂ (λ (u : List ℕ) (x : ℕ). sets u (at + x) rest) put (l ∙ sym (length-line shown s e v))
@@ -136,7 +138,8 @@ pub does-not-fit : (out text : List ℕ) (needed : ℕ) → needed ≡ length ou
 unfolding printing textAfter
 does-not-fit out text needed e h =
     let no = lt-leb (length out) (length text) (omega arith) in (
-      ap (λ (x : ℕ). Refused (text-room-too-small x)) e ∙ sym (ap (λ (b : Bool). cond b (Whole (length out)) (Refused (text-room-too-small (length out)))) no),
+      ap (λ (x : ℕ). Refused (text-room-too-small x)) e
+          ∙ sym (ap (λ (b : Bool). cond b (Whole (length out)) (Refused (text-room-too-small (length out)))) no),
       sym (ap (λ (b : Bool). cond b (out ++ drop (length out) text) text) no),
     )
 

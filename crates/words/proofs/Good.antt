@@ -35,7 +35,8 @@ good-unseen N seen (ρ ∷ R) good σ m =
 pub good-heads : (N : ℕ) (seen : ℕ → Bool) (R : List Rule) → Good N seen R → HeadsBelow N R
 good-heads N seen [] good σ m = absurd (List·Memᴰ·not-nil m)
 good-heads N seen (ρ ∷ R) good σ m =
-    ⊎-elim (λ (e : σ ≡ ρ). subst (λ (x : Rule). x .head < 2 * N) (sym e) (good .0)) (good-heads N (seen with ρ .head) R (good .3) σ) (List·Memᴰ·cases-cons m)
+    ⊎-elim (λ (e : σ ≡ ρ). subst (λ (x : Rule). x .head < 2 * N) (sym e) (good .0))
+    (good-heads N (seen with ρ .head) R (good .3) σ) (List·Memᴰ·cases-cons m)
 
 pub good-distinct : (N : ℕ) (seen : ℕ → Bool) (R : List Rule) → Good N seen R → DistinctHeads R
 unfolding DistinctHeads

@@ -30,7 +30,8 @@ unfolding DistinctHeads
 distinct-one-rule [] distinct ρ σ m m′ e = absurd (List·Memᴰ·not-nil m)
 distinct-one-rule (τ ∷ R) distinct ρ σ m m′ e =
     ⊎-elim
-    (λ (p : ρ ≡ τ). ⊎-elim (λ (q : σ ≡ τ). p ∙ sym q) (λ q. absurd (distinct .0 σ q (sym e ∙ ap (λ (x : Rule). x .head) p))) (List·Memᴰ·cases-cons m′))
+    (λ (p : ρ ≡ τ). ⊎-elim
+    (λ (q : σ ≡ τ). p ∙ sym q) (λ q. absurd (distinct .0 σ q (sym e ∙ ap (λ (x : Rule). x .head) p))) (List·Memᴰ·cases-cons m′))
     (λ p. ⊎-elim (λ (q : σ ≡ τ). absurd (distinct .0 ρ p (e ∙ ap (λ (x : Rule). x .head) q)))
     (λ q. distinct-one-rule R (distinct .1) ρ σ p q e) (List·Memᴰ·cases-cons m′))
     (List·Memᴰ·cases-cons m)
@@ -83,7 +84,8 @@ accepted-one-rule N t a = distinct-one-rule (rulesOf t) (accepted-within N t a .
 pub accepted-heads : (N : ℕ) (t : List ℕ) → AcceptedTable N t → HeadsBelow N (rulesOf t)
 accepted-heads N t a = accepted-within N t a .heads-below
 
-pub accepted-literals : (N : ℕ) (t : List ℕ) → AcceptedTable N t → (ρ : Rule) (β : List ℕ) (l : ℕ) → ρ ∈ rulesOf t → β ∈ ρ .groups → l ∈ β → l < 2 * N
+pub accepted-literals : (N : ℕ) (t : List ℕ) → AcceptedTable N t → (ρ : Rule) (β : List ℕ) (l : ℕ)
+    → ρ ∈ rulesOf t → β ∈ ρ .groups → l ∈ β → l < 2 * N
 accepted-literals N t a ρ β l m m′ m″ = accepted-within N t a .each-body ρ m .each-group β m′ .literals-below l m″
 
 -- the empty table is accepted for every allowed N

@@ -23,8 +23,10 @@ add-result c = search needs
 
 returns : tie.Need-returns
 unfolding fourAt
-returns c =
-    (ap₂ (λ (x y : ℕ). x + 65536 * y) (c .before .pair .ensures .0) (c .pair2 .ensures .0), omega (arith, c .before .pair .ensures .1, c .pair2 .ensures .1))
+returns c = (
+  ap₂ (λ (x y : ℕ). x + 65536 * y) (c .before .pair .ensures .0) (c .pair2 .ensures .0),
+  omega (arith, c .before .pair .ensures .1, c .pair2 .ensures .1),
+)
 
 pub four-spec : {M : Type 1} → statement M
 four-spec =

@@ -50,7 +50,8 @@ loop-again c =
     let at-loop = c .before .before .before .before .loop in (
       omega arith,
       same-on (entry .args .sheet .now) (entry .args .a) (entry .args .b) (entry .args .n) (at-loop .i) _
-          (at-loop .inv .1) (c .before .before .before .loop-test .taken) (sym (c .before .before .byte .ensures) ∙ c .if1 .left ∙ c .before .byte2 .ensures),
+          (at-loop .inv .1) (c .before .before .before .loop-test .taken)
+          (sym (c .before .before .byte .ensures) ∙ c .if1 .left ∙ c .before .byte2 .ensures),
     )
 
 returns-2 : tie.Need-returns-2 Inv-loop μ-loop

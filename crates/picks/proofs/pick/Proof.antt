@@ -79,8 +79,10 @@ stayed = (stay-ref (0 ∷ []) tt behind, (stay-none-slice (1 ∷ []) tt (plain (
 abbrev ByValue : {M : Type 1} (𝓤 : URA M) (H : Heap 𝓤) (A : Atoms 𝓤) (mem : Memory → SProp 𝓤) (run : Routine → Fun 𝓤) → Contract 𝓤
 ByValue 𝓤 H A mem run = tripleOf 𝓤 H A by-value.signature (by-value.spec 𝓤 H A mem run)
 
-module _ {M : Type 1} (𝓤 : URA M) (H : Heap 𝓤) (A : Atoms 𝓤) (W : Given 𝓤 H A) (at-mem : Memory → SProp 𝓤) (run : Routine → Fun 𝓤) (κ κ′ : Lft)
-    (q q′ : Share) (bounds : AllOutlive 2 (lent.signature .outlives) (κ, (κ′, tt))) (b o : ℕ) (γ : GName) (h : MarkRecord) (s : RefT (List ℕ)) (a : ℕ) where
+module _ {M : Type 1} (𝓤 : URA M) (H : Heap 𝓤) (A : Atoms 𝓤) (W : Given 𝓤 H A)
+    (at-mem : Memory → SProp 𝓤) (run : Routine → Fun 𝓤) (κ κ′ : Lft)
+    (q q′ : Share) (bounds : AllOutlive 2 (lent.signature .outlives) (κ, (κ′, tt)))
+    (b o : ℕ) (γ : GName) (h : MarkRecord) (s : RefT (List ℕ)) (a : ℕ) where
   abbrev x : RefT MarkRecord × (RefT (List ℕ) × (ℕ × Unit {0}))
   x = (record { ptr = (b, o); name = γ; now = h }, (s, (a, tt)))
 
@@ -112,25 +114,32 @@ module _ {M : Type 1} (𝓤 : URA M) (H : Heap 𝓤) (A : Atoms 𝓤) (W : Given
   to = (((κ′, tt), (q′, tt), tt, (h, (s, (a, tt))), passed), tt)
 
   asked : ent 𝓤 (onEntry 𝓤 H A by-value.signature (κ′, tt) (q′, tt) (h, (s, (a, tt))) passed) (ByValue 𝓤 H A at-mem run .pre to)
-  asked = qed W ((‵ (flft κ′ q′) ⊛ ‵ ftrue) ∷ ‵ (owns (B ∷ ShrSlice (named 0) κ′ u16 ∷ u64 ∷ []) (h, (s, (a, tt))) passed) ∷ []) ∵ join ! $ frame ! $ done !
+  asked =
+      qed W ((‵ (flft κ′ q′) ⊛ ‵ ftrue) ∷ ‵ (owns (B ∷ ShrSlice (named 0) κ′ u16 ∷ u64 ∷ []) (h, (s, (a, tt))) passed) ∷ []) ∵
+      join ! $ frame ! $ done !
 
   -- the table is lent on, and kept
-  apart : a < 2 ^ 64 → ent 𝓤 (⋆ 𝓤 H A (‵ OwnRecord ∷ ‵ Own ∷ (‵ (flft κ′ q′) ⊛ ‵ ftrue) ∷ [])) (sep 𝓤 (ByValue 𝓤 H A at-mem run .pre to) (sem 𝓤 H A Own))
+  apart : a < 2 ^ 64 → ent 𝓤 (⋆ 𝓤 H A (‵ OwnRecord ∷ ‵ Own ∷ (‵ (flft κ′ q′) ⊛ ‵ ftrue) ∷ []))
+      (sep 𝓤 (ByValue 𝓤 H A at-mem run .pre to) (sem 𝓤 H A Own))
   apart fits =
       qed W (‵ OwnRecord ∷ ‵ Own ∷ (‵ (flft κ′ q′) ⊛ ‵ ftrue) ∷ []) ∵
       move ! (1 ∷ []) $ use1 W (‵ Own ⊛ ‵ Own) (shr-slice-copy 𝓤 H A W (named 1) κ′ u16 .twice s (v ∷ [])) $ split ! $
       -- [the table; the table; the record; the token]
-      nothing ! $ owned ! u64 (Is u64) (uint-makes 𝓤 H A W w64) a _ (refl, fits) $ fjoin ! $ move ! (1 ∷ 0 ∷ []) $ fjoin ! $ move ! (2 ∷ 0 ∷ []) $ fjoin ! $
+      nothing ! $ owned ! u64 (Is u64) (uint-makes 𝓤 H A W w64) a _ (refl, fits) $
+      fjoin ! $ move ! (1 ∷ 0 ∷ []) $ fjoin ! $ move ! (2 ∷ 0 ∷ []) $ fjoin ! $
       move ! (2 ∷ 0 ∷ []) $ use2 W (raw (ByValue 𝓤 H A at-mem run .pre to)) asked $ frame ! $ done !
 
   abbrev Allowed : Picked → Type 0
   Allowed r = PickAllows h (now s) a (r .answer) (r .«record»)
 
-  said : (r : Picked) → ent 𝓤 (ensured 𝓤 H A by-value.ended (by-value.clauses 𝓤 H A at-mem run) (κ′, tt) (h, (s, (a, tt))) tt r) (fact 𝓤 (Allowed r))
+  said : (r : Picked)
+      → ent 𝓤 (ensured 𝓤 H A by-value.ended (by-value.clauses 𝓤 H A at-mem run) (κ′, tt) (h, (s, (a, tt))) tt r) (fact 𝓤 (Allowed r))
   said r = exE 𝓤 _ (λ ws. snd∗ 𝓤 (sem 𝓤 H A (lasts by-value.ended (κ′, tt) (h, (s, (a, tt))) ws)) (fact 𝓤 (Allowed r)))
 
-  exits : (r : Picked) (u : Val) → Allowed r → ent 𝓤 (⋆ 𝓤 H A (‵ (fobs γ (B .coded .code (r .«record»))) ∷ ‵ (fbor κ (Body (mem B) b o γ))
-      ∷ ‵ (flft κ q) ∷ (‵ (flft κ′ q′) ⊛ ‵ ftrue) ∷ ‵ (S.the-row .own (r .answer) (u ∷ [])) ∷ ‵ Own ∷ ‵ OwnAtom ∷ [])) (Post u)
+  exits : (r : Picked) (u : Val) → Allowed r
+      → ent 𝓤 (⋆ 𝓤 H A (‵ (fobs γ (B .coded .code (r .«record»))) ∷ ‵ (fbor κ (Body (mem B) b o γ))
+      ∷ ‵ (flft κ q) ∷ (‵ (flft κ′ q′) ⊛ ‵ ftrue)
+      ∷ ‵ (S.the-row .own (r .answer) (u ∷ [])) ∷ ‵ Own ∷ ‵ OwnAtom ∷ [])) (Post u)
   exits r u e =
       qed W (‵ (fobs γ (B .coded .code (r .«record»))) ∷ ‵ (fbor κ (Body (mem B) b o γ)) ∷ ‵ (flft κ q)
       ∷ (‵ (flft κ′ q′) ⊛ ‵ ftrue) ∷ ‵ (S.the-row .own (r .answer) (u ∷ [])) ∷ ‵ Own ∷ ‵ OwnAtom ∷ []) ∵
@@ -144,11 +153,14 @@ module _ {M : Type 1} (𝓤 : URA M) (H : Heap 𝓤) (A : Atoms 𝓤) (W : Given
   record-is : (r : Picked) (u : Val) → Is N.the-row r (u ∷ []) → Is B (r .«record») (mach (r .«record») ∷ [])
   record-is r u is = LL.owed N.the-type N′.the-laws r _ is .1 .0
 
-  module _ (C : Calls 𝓤 H) (Λ : Loops 𝓤 H) (fm : FmC 𝓤 H (W .laws) C) (known : Triple 𝓤 (C #picks·pick-by-value) (ByValue 𝓤 H A at-mem run)) where
+  module _
+      (C : Calls 𝓤 H) (Λ : Loops 𝓤 H) (fm : FmC 𝓤 H (W .laws) C) (known : Triple 𝓤 (C #picks·pick-by-value) (ByValue 𝓤 H A at-mem run)) where
     walk : Is (ShrSlice (named 1) κ′ u16) s (v ∷ []) → a < 2 ^ 64
-        → ent 𝓤 (onEntry 𝓤 H A lent.signature (κ, (κ′, tt)) (q, (q′, tt)) x at) (WpFn 𝓤 H C Λ code.function (vptr b o ∷ v ∷ vint w64 a ∷ []) Post)
+        → ent 𝓤 (onEntry 𝓤 H A lent.signature (κ, (κ′, tt)) (q, (q′, tt)) x at)
+        (WpFn 𝓤 H C Λ code.function (vptr b o ∷ v ∷ vint w64 a ∷ []) Post)
     walk p fits =
-        qed W ((‵ (flft κ q) ⊛ ‵ (flft κ′ q′) ⊛ ‵ ftrue) ∷ ‵ (owns (MutRef (named 0) κ B ∷ ShrSlice (named 1) κ′ u16 ∷ u64 ∷ []) x at) ∷ []) ∵
+        qed W ((‵ (flft κ q) ⊛ ‵ (flft κ′ q′) ⊛ ‵ ftrue)
+        ∷ ‵ (owns (MutRef (named 0) κ B ∷ ShrSlice (named 1) κ′ u16 ∷ u64 ∷ []) x at) ∷ []) ∵
         enter ! C Λ code.function (vptr b o ∷ v ∷ vint w64 a ∷ []) _ $
         alloc1 ! (λ l₀. alloc1 ! (λ l₁. alloc1 ! (λ l₂. alloc1 ! (λ l₃. alloc1 ! (λ l₄. alloc1 ! (λ l₅. alloc0 ! $
         params1 ! $ pass1 ! (init ! 8 refl (tt, tt)) $
@@ -156,7 +168,8 @@ module _ {M : Type 1} (𝓤 : URA M) (H : Heap 𝓤) (A : Atoms 𝓤) (W : Given
         pass1 ! (init ! 4 refl (tt, record { fits = fits })) $ pass0 ! $
         move ! (13 ∷ []) $ fsplit ! $ fsplit3 ! $ drop ! $
         move ! (2 ∷ []) $ fsplit ! $ move ! (1 ∷ []) $ fsplit ! $ move ! (17 ∷ []) $ split ! $ move ! (5 ∷ 6 ∷ 0 ∷ []) $
-        opens ! tt B {h = h} b o (λ vs. spelt ! B (Is B) (shows 𝓤 H A B) (LL.vals T.the-type T′.the-laws) (LL.tells T.the-type T′.the-laws) fullShare h vs b o $
+        opens ! tt B {h = h} b o (λ vs.
+        spelt ! B (Is B) (shows 𝓤 H A B) (LL.vals T.the-type T′.the-laws) (LL.tells T.the-type T′.the-laws) fullShare h vs b o $
         move ! (1 ∷ []) $ peeks ! B (Is B) (shows 𝓤 H A B) h (mach h ∷ []) (λ was. move ! (1 ∷ 0 ∷ []) $
         -- [the record's cell; what it owns; the open borrow; obs; auth; the table's token; the
         -- atom's; nothing; the table's; _5; …; _4; …; _3; …; _2; …; _1; …; room for _0; …]
@@ -166,7 +179,8 @@ module _ {M : Type 1} (𝓤 : URA M) (H : Heap 𝓤) (A : Atoms 𝓤) (W : Given
         calls-at ! fm (ByValue 𝓤 H A at-mem run) known to (and-then ! (load ! (from ! (stop !)) (look ! 8 refl))
         (and-then ! (load ! (from ! (stop !)) (look ! 14 refl)) (and-then ! (load ! (from ! (stop !)) (look ! 12 refl)) (no-more !)))) (λ u.
         use1 W (later (some (λ (r : Picked). ((‵ (flft κ′ q′) ⊛ ‵ ftrue) ⊛ ‵ (N.the-row .own r (u ∷ [])))
-        ⊛ raw (ensured 𝓤 H A by-value.ended (by-value.clauses 𝓤 H A at-mem run) (κ′, tt) (h, (s, (a, tt))) tt r)))) (id⊢ 𝓤 _) $ await ! tt $ pick ! (λ r.
+        ⊛ raw (ensured 𝓤 H A by-value.ended (by-value.clauses 𝓤 H A at-mem run) (κ′, tt) (h, (s, (a, tt))) tt r)))) (id⊢ 𝓤 _) $
+        await ! tt $ pick ! (λ r.
         split ! $ move ! (1 ∷ []) $ use1 W (raw (fact 𝓤 (Allowed r))) (said r) $ heard ! (Allowed r) (λ e. split ! $ move ! (1 ∷ []) $
         -- [the result; the table's token; the table's; the record's cell; the open borrow; obs;
         -- auth; the atom's; nothing; _5; …; room for _4; …; _3; …; _2; …; _1; …; room for _0; …]
@@ -200,7 +214,8 @@ module _ {M : Type 1} (𝓤 : URA M) (H : Heap 𝓤) (A : Atoms 𝓤) (W : Given
       (λ κs qs bounds a g are. via 𝓤 _ (fst∗ 𝓤 _ (emp 𝓤)) (walk 𝓤 H A W mem run (κs .0) (κs .1 .0) (qs .0) (qs .1 .0) bounds
       (a .0 .ptr .0) (a .0 .ptr .1) (a .0 .name) (a .0 .now) (a .1 .0) (a .1 .1 .0) C Λ fm known (are .1 .0) (are .1 .1 .0 .1)))
 
-pick-meets : {M : Type 1} (𝓤 : URA M) (H : Heap 𝓤) (A : Atoms 𝓤) (W : Given 𝓤 H A) (mem : Memory → SProp 𝓤) (run : Routine → Fun 𝓤) (𝓣 : Tables 𝓤 H)
+pick-meets : {M : Type 1} (𝓤 : URA M) (H : Heap 𝓤) (A : Atoms 𝓤) (W : Given 𝓤 H A)
+    (mem : Memory → SProp 𝓤) (run : Routine → Fun 𝓤) (𝓣 : Tables 𝓤 H)
     → Triple 𝓤 (𝓣 .C #picks·pick-by-value) (ByValue 𝓤 H A mem run)
     → Meets 𝓤 H A lent.signature (WpFn 𝓤 H (𝓣 .C) (𝓣 .Λ) code.function) (lent.spec 𝓤 H A mem run)
 pick-meets 𝓤 H A W mem run 𝓣 known =
@@ -217,5 +232,6 @@ pick-spec 𝓤 H 𝓜 𝓖 𝓡 =
     entered 𝓤 H (tripleOf 𝓤 H (𝓖 .A) lent.signature (lent.spec 𝓤 H (𝓖 .A) (𝓜 .mem) (𝓡 .run)))
     (tables 𝓤 H 𝓜 𝓡 code.env .C) (tables 𝓤 H 𝓜 𝓡 code.env .Λ) #picks·pick code.function (code.unfolded 𝓤 H 𝓜 𝓡)
     (pick-meets 𝓤 H (𝓖 .A) (givenOf 𝓤 H 𝓜 𝓖) (𝓜 .mem) (𝓡 .run) (tablesOf 𝓤 H 𝓜 (tables 𝓤 H 𝓜 𝓡 code.env))
-    (cited 𝓤 H (ByValue 𝓤 H (𝓖 .A) (𝓜 .mem) (𝓡 .run)) 𝓜 𝓡 code.env #picks·pick-by-value by-value-def.routine code.calls-picks·pick-by-value
+    (cited 𝓤 H
+    (ByValue 𝓤 H (𝓖 .A) (𝓜 .mem) (𝓡 .run)) 𝓜 𝓡 code.env #picks·pick-by-value by-value-def.routine code.calls-picks·pick-by-value
     (by-value-thm.met 𝓤 H 𝓜 𝓖 𝓡)))

@@ -85,7 +85,8 @@ Lent 𝓤 H A mem run = tripleOf 𝓤 H A lent.signature (lent.spec 𝓤 H A mem
 
 -- a record lies in memory where its machine value stands and what it owns is had
 module _ {M : Type 1} (𝓤 : URA M) (H : Heap 𝓤) (A : Atoms 𝓤) (W : Given 𝓤 H A) where
-  lies-in : (h : MarkRecord) (l : ℕ) → ent 𝓤 (⋆ 𝓤 H A (‵ (fat fullShare T′.mir l 0 (mach h)) ∷ ‵ (B .own h (mach h ∷ [])) ∷ [])) (sem 𝓤 H A (mem B .lies h l 0))
+  lies-in : (h : MarkRecord) (l : ℕ)
+      → ent 𝓤 (⋆ 𝓤 H A (‵ (fat fullShare T′.mir l 0 (mach h)) ∷ ‵ (B .own h (mach h ∷ [])) ∷ [])) (sem 𝓤 H A (mem B .lies h l 0))
   unfolding partOf
   lies-in h l =
       qed W (‵ (fat fullShare T′.mir l 0 (mach h)) ∷ ‵ (B .own h (mach h ∷ [])) ∷ []) ∵
@@ -154,13 +155,16 @@ module _ {M : Type 1} (𝓤 : URA M) (H : Heap 𝓤) (A : Atoms 𝓤) (W : Given
 
     -- the table is lent on, and kept
     apart : a < 2 ^ 64
-        → ent 𝓤 (⋆ 𝓤 H A (‵ (MutRef (named 0) (α ∷ []) B .own lending (vptr l 0 ∷ [])) ∷ ‵ (flft (α ∷ []) fullShare) ∷ (‵ Own ⊛ (‵ (flft κ q) ⊛ ‵ ftrue)) ∷ []))
+        → ent 𝓤 (⋆ 𝓤 H A (‵ (MutRef (named 0) (α ∷ []) B .own lending (vptr l 0 ∷ []))
+        ∷ ‵ (flft (α ∷ []) fullShare) ∷ (‵ Own ⊛ (‵ (flft κ q) ⊛ ‵ ftrue)) ∷ []))
         (sep 𝓤 (Lent 𝓤 H A at-mem run .pre to) (sem 𝓤 H A Own))
     apart fits =
-        qed W (‵ (MutRef (named 0) (α ∷ []) B .own lending (vptr l 0 ∷ [])) ∷ ‵ (flft (α ∷ []) fullShare) ∷ (‵ Own ⊛ (‵ (flft κ q) ⊛ ‵ ftrue)) ∷ []) ∵
+        qed W (‵ (MutRef (named 0) (α ∷ []) B .own lending (vptr l 0 ∷ []))
+        ∷ ‵ (flft (α ∷ []) fullShare) ∷ (‵ Own ⊛ (‵ (flft κ q) ⊛ ‵ ftrue)) ∷ []) ∵
         move ! (2 ∷ []) $ split ! $ use1 W (‵ Own ⊛ ‵ Own) (shr-slice-copy 𝓤 H A W (named 0) κ u16 .twice s (v ∷ [])) $ split ! $
         -- [the table; the table; its token; the reference; α's token]
-        nothing ! $ owned ! u64 (Is u64) (uint-makes 𝓤 H A W w64) a _ (refl, fits) $ fjoin ! $ move ! (1 ∷ 0 ∷ []) $ fjoin ! $ move ! (3 ∷ 0 ∷ []) $ fjoin ! $
+        nothing ! $ owned ! u64 (Is u64) (uint-makes 𝓤 H A W w64) a _ (refl, fits) $
+        fjoin ! $ move ! (1 ∷ 0 ∷ []) $ fjoin ! $ move ! (3 ∷ 0 ∷ []) $ fjoin ! $
         -- [what is passed; the table; its token; α's token]
         move ! (3 ∷ 2 ∷ []) $ join ! $ move ! (0 ∷ 1 ∷ []) $ use2 W (raw (Lent 𝓤 H A at-mem run .pre to)) asked $ frame ! $ done !
 
@@ -188,13 +192,15 @@ module _ {M : Type 1} (𝓤 : URA M) (H : Heap 𝓤) (A : Atoms 𝓤) (W : Given
       owned ! N.the-row (Is N.the-row) (LL.makes N.the-type N′.the-plain 𝓤 H A) r _ is $ move ! (1 ∷ 0 ∷ []) $ done !
 
   h-is : Is u64 n (vint w64 n ∷ []) → Is (Array u64 8) marks (row-vals marks) → Is B h (mach h ∷ [])
-  h-is n-is marks-are = LL.owes T.the-type T′.the-laws h (n-is, (subst (λ (ys : List ℕ). Is (Array u64 8) ys (row-vals ys)) (sym (map-id marks)) marks-are, tt))
+  h-is n-is marks-are =
+      LL.owes T.the-type T′.the-laws h (n-is, (subst (λ (ys : List ℕ). Is (Array u64 8) ys (row-vals ys)) (sym (map-id marks)) marks-are, tt))
 
   -- the machine value that is built of the two numbers is the record's
   built : vstruct (ofList (vint w64 n ∷ only (row-vals marks) ∷ [])) ≡ mach h
   built = ap (λ (ys : List ℕ). vstruct (ofList (vint w64 n ∷ only (row-vals ys) ∷ []))) (sym (map-id marks))
 
-  built-is : Is u64 n (vint w64 n ∷ []) → Is (Array u64 8) marks (row-vals marks) → Is B h (vstruct (ofList (vint w64 n ∷ only (row-vals marks) ∷ [])) ∷ [])
+  built-is : Is u64 n (vint w64 n ∷ []) → Is (Array u64 8) marks (row-vals marks)
+      → Is B h (vstruct (ofList (vint w64 n ∷ only (row-vals marks) ∷ [])) ∷ [])
   built-is n-is marks-are = subst (λ (w : Val). Is B h (w ∷ [])) (sym built) (h-is n-is marks-are)
 
   abbrev outcome : PickAnswer → MarkRecord → Picked
@@ -203,7 +209,8 @@ module _ {M : Type 1} (𝓤 : URA M) (H : Heap 𝓤) (A : Atoms 𝓤) (W : Given
   module _ (C : Calls 𝓤 H) (Λ : Loops 𝓤 H) (fm : FmC 𝓤 H (W .laws) C) (known : Triple 𝓤 (C #picks·pick) (Lent 𝓤 H A at-mem run)) where
     walk : Is u64 n (vint w64 n ∷ []) → Is (Array u64 8) marks (row-vals marks) → Is (ShrSlice (named 0) κ u16) s (v ∷ []) → a < 2 ^ 64
         → ent 𝓤
-        (onEntry 𝓤 H A numbers.signature (κ, tt) (q, tt) x at) (WpFn 𝓤 H C Λ code.function (vint w64 n ∷ only (row-vals marks) ∷ v ∷ vint w64 a ∷ []) Post)
+        (onEntry 𝓤 H A numbers.signature (κ, tt) (q, tt) x at)
+        (WpFn 𝓤 H C Λ code.function (vint w64 n ∷ only (row-vals marks) ∷ v ∷ vint w64 a ∷ []) Post)
     walk n-is marks-are p fits =
         qed W ((‵ (flft κ q) ⊛ ‵ ftrue) ∷ ‵ (owns (u64 ∷ Array u64 8 ∷ ShrSlice (named 0) κ u16 ∷ u64 ∷ []) x at) ∷ []) ∵
         enter ! C Λ code.function (vint w64 n ∷ only (row-vals marks) ∷ v ∷ vint w64 a ∷ []) _ $
@@ -222,13 +229,16 @@ module _ {M : Type 1} (𝓤 : URA M) (H : Heap 𝓤) (A : Atoms 𝓤) (W : Given
         owned ! B (Is B) (LL.makes T.the-type T′.the-plain 𝓤 H A) h _ (h-is n-is marks-are) $
         move ! (8 ∷ 0 ∷ []) $ use2 W (‵ (mem B .lies h l₅ 0)) (lies-in 𝓤 H A W h l₅) $
         lft-new ! tt (λ α. move ! (1 ∷ []) $
-        use1 W (later (some (λ (γ : GName). ‵ (MutRef (named 0) (α ∷ []) B .own (lending α l₅ γ) (vptr l₅ 0 ∷ [])) ⊛ ‵ (flent (α ∷ []) (Body (mem B) l₅ 0 γ)))))
+        use1 W (later (some (λ (γ : GName). ‵ (MutRef (named 0) (α ∷ []) B .own (lending α l₅ γ) (vptr l₅ 0 ∷ []))
+        ⊛ ‵ (flent (α ∷ []) (Body (mem B) l₅ 0 γ)))))
         (lends-ref 𝓤 H A W B (named 0) (α ∷ []) h l₅ 0) $ await ! tt $ pick ! (λ γ. split ! $
-        move ! (3 ∷ 21 ∷ []) $ join ! $ move ! (1 ∷ 3 ∷ 0 ∷ []) $ use3 W (raw (Lent 𝓤 H A at-mem run .pre (to α l₅ γ)) ⊛ ‵ Own) (apart α l₅ γ fits) $ split ! $
+        move ! (3 ∷ 21 ∷ []) $ join ! $ move ! (1 ∷ 3 ∷ 0 ∷ []) $
+        use3 W (raw (Lent 𝓤 H A at-mem run .pre (to α l₅ γ)) ⊛ ‵ Own) (apart α l₅ γ fits) $ split ! $
         calls-at ! fm (Lent 𝓤 H A at-mem run) known (to α l₅ γ) (and-then ! (load ! (from ! (stop !)) (look ! 5 refl))
         (and-then ! (load ! (from ! (stop !)) (look ! 12 refl)) (and-then ! (load ! (from ! (stop !)) (look ! 10 refl)) (no-more !)))) (λ u.
         use1 W (later (some (λ (r : PickAnswer). ((‵ (flft (α ∷ []) fullShare) ⊛ ‵ (flft κ q) ⊛ ‵ ftrue) ⊛ ‵ (S.the-row .own r (u ∷ [])))
-        ⊛ raw (ensured 𝓤 H A lent.ended (lent.clauses 𝓤 H A at-mem run) (α ∷ [], (κ, tt)) (args α l₅ γ) tt r)))) (id⊢ 𝓤 _) $ await ! tt $ pick ! (λ r.
+        ⊛ raw (ensured 𝓤 H A lent.ended (lent.clauses 𝓤 H A at-mem run) (α ∷ [], (κ, tt)) (args α l₅ γ) tt r)))) (id⊢ 𝓤 _) $
+        await ! tt $ pick ! (λ r.
         split ! $ move ! (1 ∷ []) $
         use1 W (some (λ (w : MarkRecord). ‵ (fres γ (B .coded .code w)) ⊛ raw (fact 𝓤 (PickAllows h (now s) a r w)))) (said α l₅ γ r) $
         pick ! (λ w. split ! $ move ! (1 ∷ []) $ heard ! (PickAllows h (now s) a r w) (λ e.
@@ -237,7 +247,8 @@ module _ {M : Type 1} (𝓤 : URA M) (H : Heap 𝓤) (A : Atoms 𝓤) (W : Given
         move ! (1 ∷ []) $ split ! $ move ! (1 ∷ []) $ peeks ! S.the-row (Is S.the-row) (shows 𝓤 H A S.the-row) r (u ∷ []) (λ is. drop ! $
         land ! (from ! (stop !)) (init ! 8 refl (EL.lawful S.the-type S′.the-laws 𝓤 H A W tt .typed r _ is .0)) $
         -- the lifetime is ended, and the record is taken back
-        split ! $ lft-end ! tt $ move ! (0 ∷ 4 ∷ 2 ∷ []) $ use3 W (later (‵ (mem B .lies w l₅ 0))) (ref-back 𝓤 H A W B (α ∷ []) γ w l₅ 0) $ await ! tt $
+        split ! $ lft-end ! tt $ move ! (0 ∷ 4 ∷ 2 ∷ []) $
+        use3 W (later (‵ (mem B .lies w l₅ 0))) (ref-back 𝓤 H A W B (α ∷ []) γ w l₅ 0) $ await ! tt $
         use1 W (‵ (fat fullShare T′.mir l₅ 0 (mach w)) ⊛ ‵ (B .own w (mach w ∷ []))) (lies-out 𝓤 H A W w l₅) $
         split ! $ move ! (1 ∷ []) $ peeks ! B (Is B) (shows 𝓤 H A B) w (mach w ∷ []) (λ w-is. drop ! $
         -- [_5; the token; the table's; room for _8; …; _7; …; _6; …; what frees _5; _4; …; _3; …; _2; …; _1; …; room for _0; …]
@@ -262,7 +273,8 @@ module _ {M : Type 1} (𝓤 : URA M) (H : Heap 𝓤) (A : Atoms 𝓤) (W : Given
       (λ κs qs bounds a g are. via 𝓤 _ (fst∗ 𝓤 _ (emp 𝓤)) (walk 𝓤 H A W mem run
       (κs .0) (qs .0) (a .0) (a .1 .0) (a .1 .1 .0) (a .1 .1 .1 .0) C Λ fm known (are .0) (are .1 .0) (are .1 .1 .0) (are .1 .1 .1 .0 .1)))
 
-numbers-meets : {M : Type 1} (𝓤 : URA M) (H : Heap 𝓤) (A : Atoms 𝓤) (W : Given 𝓤 H A) (mem : Memory → SProp 𝓤) (run : Routine → Fun 𝓤) (𝓣 : Tables 𝓤 H)
+numbers-meets : {M : Type 1} (𝓤 : URA M) (H : Heap 𝓤) (A : Atoms 𝓤) (W : Given 𝓤 H A)
+    (mem : Memory → SProp 𝓤) (run : Routine → Fun 𝓤) (𝓣 : Tables 𝓤 H)
     → Triple 𝓤 (𝓣 .C #picks·pick) (Lent 𝓤 H A mem run)
     → Meets 𝓤 H A numbers.signature (WpFn 𝓤 H (𝓣 .C) (𝓣 .Λ) code.function) (numbers.spec 𝓤 H A mem run)
 numbers-meets 𝓤 H A W mem run 𝓣 known =
@@ -282,4 +294,5 @@ pick-numbers-spec 𝓤 H 𝓜 𝓖 𝓡 =
     entered 𝓤 H (tripleOf 𝓤 H (𝓖 .A) numbers.signature (numbers.spec 𝓤 H (𝓖 .A) (𝓜 .mem) (𝓡 .run)))
     (tables 𝓤 H 𝓜 𝓡 code.env .C) (tables 𝓤 H 𝓜 𝓡 code.env .Λ) #picks·pick-numbers code.function (code.unfolded 𝓤 H 𝓜 𝓡)
     (numbers-meets 𝓤 H (𝓖 .A) (givenOf 𝓤 H 𝓜 𝓖) (𝓜 .mem) (𝓡 .run) (tablesOf 𝓤 H 𝓜 (tables 𝓤 H 𝓜 𝓡 code.env))
-    (cited 𝓤 H (Lent 𝓤 H (𝓖 .A) (𝓜 .mem) (𝓡 .run)) 𝓜 𝓡 code.env #picks·pick lent-def.routine code.calls-picks·pick (lent-thm.met 𝓤 H 𝓜 𝓖 𝓡)))
+    (cited 𝓤 H (Lent 𝓤 H (𝓖 .A) (𝓜 .mem) (𝓡 .run)) 𝓜 𝓡 code.env #picks·pick lent-def.routine code.calls-picks·pick
+    (lent-thm.met 𝓤 H 𝓜 𝓖 𝓡)))

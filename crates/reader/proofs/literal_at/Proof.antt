@@ -16,7 +16,8 @@ add-name-at c =
     omega (
       arith,
       inside-by isMinus refl
-          (c .before .before .before .args .sheet .now) (c .before .before .before .args .place) (eq-eqb _ _ (sym (c .before .byte .ensures) ∙ c .if1 .taken)),
+          (c .before .before .before .args .sheet .now) (c .before .before .before .args .place)
+          (eq-eqb _ _ (sym (c .before .byte .ensures) ∙ c .if1 .taken)),
     )
 
 name-at-requires : tie.Need-name-at-requires
@@ -24,7 +25,8 @@ name-at-requires c κs =
     omega (
       arith,
       inside-by isMinus refl
-          (c .before .before .before .args .sheet .now) (c .before .before .before .args .place) (eq-eqb _ _ (sym (c .before .byte .ensures) ∙ c .if1 .taken)),
+          (c .before .before .before .args .sheet .now) (c .before .before .before .args .place)
+          (eq-eqb _ _ (sym (c .before .byte .ensures) ∙ c .if1 .taken)),
     )
 
 name-at-requires-2 : tie.Need-name-at-requires-2

@@ -86,7 +86,8 @@ stepped-is : (r : Stepped) (u u′ : Val) → Is S.the-row (r .seen) (u ∷ []) 
     → Is N.the-row r (vstruct (ofList (u ∷ u′ ∷ vint w64 (r .place) ∷ [])) ∷ [])
 stepped-is r u u′ a b fits =
     subst (λ (vs : List Val). Is N.the-row r (vstruct (ofList (only vs ∷ u′ ∷ vint w64 (r .place) ∷ [])) ∷ [])) (sym seen)
-    (subst (λ (vs : List Val). Is N.the-row r (vstruct (ofList (only (EL.vals S.the-type S′.the-laws (r .seen)) ∷ only vs ∷ vint w64 (r .place) ∷ [])) ∷ []))
+    (subst (λ (vs : List Val). Is N.the-row r
+    (vstruct (ofList (only (EL.vals S.the-type S′.the-laws (r .seen)) ∷ only vs ∷ vint w64 (r .place) ∷ [])) ∷ []))
     (sym given)
     (LL.owes N.the-type N′.the-laws r
     (subst (λ (vs : List Val). Is S.the-row (r .seen) vs) seen a, (subst (λ (vs : List Val). Is S.the-row (r .reading) vs) given b, ((refl, fits), tt)))))
@@ -152,7 +153,8 @@ module _ {M : Type 1} (𝓤 : URA M) (H : Heap 𝓤) (A : Atoms 𝓤) (W : Given
   to-new = (((κ, tt), (q, tt), tt, (s, tt), (v ∷ [], tt)), tt)
 
   asked-new : ent 𝓤 (onEntry 𝓤 H A new.signature (κ, tt) (q, tt) (s, tt) (v ∷ [], tt)) (New 𝓤 H A at-mem run .pre to-new)
-  asked-new = qed W ((‵ (flft κ q) ⊛ ‵ ftrue) ∷ ‵ (owns (ShrSlice (named 0) κ u8 ∷ []) (s, tt) (v ∷ [], tt)) ∷ []) ∵ join ! $ frame ! $ done !
+  asked-new =
+      qed W ((‵ (flft κ q) ⊛ ‵ ftrue) ∷ ‵ (owns (ShrSlice (named 0) κ u8 ∷ []) (s, tt) (v ∷ [], tt)) ∷ []) ∵ join ! $ frame ! $ done !
 
   -- the sheet is passed on, and kept
   goes-new : ent 𝓤 (⋆ 𝓤 H A (‵ Own ∷ (‵ (flft κ q) ⊛ ‵ ftrue) ∷ [])) (sep 𝓤 (New 𝓤 H A at-mem run .pre to-new) (sem 𝓤 H A Own))
@@ -185,16 +187,20 @@ module _ {M : Type 1} (𝓤 : URA M) (H : Heap 𝓤) (A : Atoms 𝓤) (W : Given
   to-peek h = (((κ, tt), (q, tt), tt, (h, tt), (T′.lowered h ∷ [], tt)), tt)
 
   goes-peek : (h : Reader) → ent 𝓤 (⋆ 𝓤 H A (‵ (OwnB h) ∷ (‵ (flft κ q) ⊛ ‵ ftrue) ∷ [])) (Peek 𝓤 H A at-mem run .pre (to-peek h))
-  goes-peek h = qed W (‵ (OwnB h) ∷ (‵ (flft κ q) ⊛ ‵ ftrue) ∷ []) ∵ nothing ! $ move ! (1 ∷ 0 ∷ []) $ fjoin ! $ move ! (1 ∷ 0 ∷ []) $ join ! $ frame ! $ done !
+  goes-peek h =
+      qed W (‵ (OwnB h) ∷ (‵ (flft κ q) ⊛ ‵ ftrue) ∷ []) ∵ nothing ! $
+      move ! (1 ∷ 0 ∷ []) $ fjoin ! $ move ! (1 ∷ 0 ∷ []) $ join ! $ frame ! $ done !
 
   abbrev Seen : Reader → Reading → Type 0
   Seen h t = t ≡ readingAt (now (h .sheet)) (h .place)
 
-  peek-said : (h : Reader) (t : Reading) → ent 𝓤 (ensured 𝓤 H A peek.ended (peek.clauses 𝓤 H A at-mem run) (κ, tt) (h, tt) tt t) (fact 𝓤 (Seen h t))
+  peek-said : (h : Reader) (t : Reading)
+      → ent 𝓤 (ensured 𝓤 H A peek.ended (peek.clauses 𝓤 H A at-mem run) (κ, tt) (h, tt) tt t) (fact 𝓤 (Seen h t))
   peek-said h t = exE 𝓤 _ (λ ws. snd∗ 𝓤 (sem 𝓤 H A (lasts peek.ended (κ, tt) (h, tt) ws)) (fact 𝓤 (Seen h t)))
 
   -- ---- a reader lies in memory where its machine value stands and what it owns is had
-  lies-in : (h : Reader) (l : ℕ) → ent 𝓤 (⋆ 𝓤 H A (‵ (fat fullShare (T′.mir erased) l 0 (T′.lowered h)) ∷ ‵ (OwnB h) ∷ [])) (sem 𝓤 H A (mem B .lies h l 0))
+  lies-in : (h : Reader) (l : ℕ)
+      → ent 𝓤 (⋆ 𝓤 H A (‵ (fat fullShare (T′.mir erased) l 0 (T′.lowered h)) ∷ ‵ (OwnB h) ∷ [])) (sem 𝓤 H A (mem B .lies h l 0))
   unfolding partOf
   lies-in h l =
       qed W (‵ (fat fullShare (T′.mir erased) l 0 (T′.lowered h)) ∷ ‵ (OwnB h) ∷ []) ∵
@@ -221,16 +227,19 @@ module _ {M : Type 1} (𝓤 : URA M) (H : Heap 𝓤) (A : Atoms 𝓤) (W : Given
     to-next = (((a ∷ κ, (κ, tt)), (PosShare·left q, (PosShare·right q, tt)), (meet-⊑-right (a ∷ []) κ, tt), (lending, tt), passed), tt)
 
     asked-next : ent 𝓤
-        (onEntry 𝓤 H A next.signature (a ∷ κ, (κ, tt)) (PosShare·left q, (PosShare·right q, tt)) (lending, tt) passed) (Next 𝓤 H A at-mem run .pre to-next)
+        (onEntry 𝓤 H A next.signature (a ∷ κ, (κ, tt)) (PosShare·left q, (PosShare·right q, tt)) (lending, tt) passed)
+        (Next 𝓤 H A at-mem run .pre to-next)
     asked-next =
         qed W ((‵ (flft (a ∷ κ) (PosShare·left q)) ⊛ ‵ (flft κ (PosShare·right q)) ⊛ ‵ ftrue)
         ∷ ‵ (owns (MutRef (named 0) (a ∷ κ) B ∷ []) (lending, tt) passed) ∷ []) ∵ join ! $ frame ! $ done !
 
     goes-next : ent 𝓤
-        (⋆ 𝓤 H A (‵ (MutRef (named 0) (a ∷ κ) B .own lending (vptr l 0 ∷ [])) ∷ ‵ (flft (a ∷ κ) (PosShare·left q)) ∷ ‵ (flft κ (PosShare·right q)) ∷ []))
+        (⋆ 𝓤 H A (‵ (MutRef (named 0) (a ∷ κ) B .own lending (vptr l 0 ∷ []))
+        ∷ ‵ (flft (a ∷ κ) (PosShare·left q)) ∷ ‵ (flft κ (PosShare·right q)) ∷ []))
         (Next 𝓤 H A at-mem run .pre to-next)
     goes-next =
-        qed W (‵ (MutRef (named 0) (a ∷ κ) B .own lending (vptr l 0 ∷ [])) ∷ ‵ (flft (a ∷ κ) (PosShare·left q)) ∷ ‵ (flft κ (PosShare·right q)) ∷ []) ∵
+        qed W (‵ (MutRef (named 0) (a ∷ κ) B .own lending (vptr l 0 ∷ []))
+        ∷ ‵ (flft (a ∷ κ) (PosShare·left q)) ∷ ‵ (flft κ (PosShare·right q)) ∷ []) ∵
         nothing ! $ move ! (1 ∷ 0 ∷ []) $ fjoin ! $ nothing ! $ move ! (3 ∷ 0 ∷ []) $ join ! $ move ! (2 ∷ 0 ∷ []) $ join ! $
         use2 W (raw (Next 𝓤 H A at-mem run .pre to-next)) asked-next $ done !
 
@@ -242,7 +251,8 @@ module _ {M : Type 1} (𝓤 : URA M) (H : Heap 𝓤) (A : Atoms 𝓤) (W : Given
     abbrev Left : Reading → Reader → SProp 𝓤
     Left t w = sep 𝓤 (sem 𝓤 H A (fres γ (B .coded .code w))) (fact 𝓤 (Yields t w))
 
-    next-said : (t : Reading) → ent 𝓤 (ensured 𝓤 H A next.ended (next.clauses 𝓤 H A at-mem run) (a ∷ κ, (κ, tt)) (lending, tt) tt t) (ex 𝓤 (Left t))
+    next-said : (t : Reading)
+        → ent 𝓤 (ensured 𝓤 H A next.ended (next.clauses 𝓤 H A at-mem run) (a ∷ κ, (κ, tt)) (lending, tt) tt t) (ex 𝓤 (Left t))
     next-said t =
         exE 𝓤 _ (λ ws. qed W (‵ (lasts next.ended (a ∷ κ, (κ, tt)) (lending, tt) ws) ∷ raw (fact 𝓤 (Yields t (ws .0))) ∷ []) ∵
         fsplit ! $ show ! (Left t) (ws .0) $ keep ! (0 ∷ 2 ∷ []) $ done !)
@@ -253,17 +263,20 @@ module _ {M : Type 1} (𝓤 : URA M) (H : Heap 𝓤) (A : Atoms 𝓤) (W : Given
   abbrev outcome : Reading → Reading → Reader → Stepped
   outcome t t′ w = record { seen = t; reading = t′; place = w .place }
 
-  promised : (r w : Reader) (t t′ : Reading) → Fresh r → Seen (set r) t → (a l : ℕ) (γ : GName) → Yields (set r) a l γ t′ w → Promised (outcome t t′ w)
+  promised : (r w : Reader) (t t′ : Reading) → Fresh r → Seen (set r) t
+      → (a l : ℕ) (γ : GName) → Yields (set r) a l γ t′ w → Promised (outcome t t′ w)
   promised r w t t′ e seen a l γ given = (
     seen ∙ ap₂ (λ (y : RefT (List ℕ)) (n : ℕ). readingAt (now y) n) (e .0) (set-is r e),
     given .0 ∙ ap₂ (λ (y : RefT (List ℕ)) (n : ℕ). readingAt (now y) n) (e .0) (set-is r e),
     given .2 ∙ ap₂ (λ (y : RefT (List ℕ)) (n : ℕ). placeAfter (readingAt (now y) n) n) (e .0) (set-is r e),
   )
 
-  exits : (r : Stepped) (u : Val) → Promised r → Is N.the-row r (u ∷ []) → p < 2 ^ 64 → ent 𝓤 (⋆ 𝓤 H A (‵ (flft κ q) ∷ ‵ Own ∷ [])) (Post u)
+  exits : (r : Stepped) (u : Val) → Promised r → Is N.the-row r (u ∷ []) → p < 2 ^ 64
+      → ent 𝓤 (⋆ 𝓤 H A (‵ (flft κ q) ∷ ‵ Own ∷ [])) (Post u)
   exits r u e is fits =
       qed W (‵ (flft κ q) ∷ ‵ Own ∷ []) ∵
-      suffices ! _ (ends-at 𝓤 H A step.ended stayed (step.clauses 𝓤 H A at-mem run) W (((κ, tt), (q, tt), tt, x, at), tt) u r (tt, (tt, tt)) (tt, (tt, tt))) $
+      suffices ! _
+      (ends-at 𝓤 H A step.ended stayed (step.clauses 𝓤 H A at-mem run) W (((κ, tt), (q, tt), tt, x, at), tt) u r (tt, (tt, tt)) (tt, (tt, tt))) $
       says ! e $ nothing ! $ move ! (1 ∷ 0 ∷ []) $ join ! $ frame ! $ nothing ! $
       owned ! usize (Is usize) (uint-makes 𝓤 H A W w64) p _ (refl, fits) $ fjoin ! $ move ! (1 ∷ 0 ∷ []) $ fjoin ! $
       owned ! N.the-row (Is N.the-row) (LL.makes N.the-type N′.the-plain 𝓤 H A) r _ is $ move ! (1 ∷ 0 ∷ []) $ done !
@@ -279,8 +292,10 @@ module _ {M : Type 1} (𝓤 : URA M) (H : Heap 𝓤) (A : Atoms 𝓤) (W : Given
     walk : Is (ShrSlice (named 0) κ u8) s (v ∷ []) → p < 2 ^ 64
         → ent 𝓤 (onEntry 𝓤 H A step.signature (κ, tt) (q, tt) x at) (WpFn 𝓤 H C Λ code.function (v ∷ vint w64 p ∷ []) Post)
     walk is-s fits =
-        qed W ((‵ (flft κ q) ⊛ ‵ ftrue) ∷ ‵ (owns (ShrSlice (named 0) κ u8 ∷ usize ∷ []) x at) ∷ []) ∵ enter ! C Λ code.function (v ∷ vint w64 p ∷ []) _ $
-        alloc1 ! (λ l₀. alloc1 ! (λ l₁. alloc1 ! (λ l₂. alloc1 ! (λ l₃. alloc1 ! (λ l₄. alloc1 ! (λ l₅. alloc1 ! (λ l₆. alloc1 ! (λ l₇. alloc1 ! (λ l₈.
+        qed W ((‵ (flft κ q) ⊛ ‵ ftrue) ∷ ‵ (owns (ShrSlice (named 0) κ u8 ∷ usize ∷ []) x at) ∷ []) ∵
+        enter ! C Λ code.function (v ∷ vint w64 p ∷ []) _ $
+        alloc1 ! (λ l₀. alloc1 ! (λ l₁. alloc1 ! (λ l₂. alloc1 ! (λ l₃. alloc1 ! (λ l₄.
+        alloc1 ! (λ l₅. alloc1 ! (λ l₆. alloc1 ! (λ l₇. alloc1 ! (λ l₈.
         alloc1 ! (λ l₉. alloc0 ! $ params1 ! $ pass1 ! (init ! 16 refl (shr-slice-lawful 𝓤 H A W (named 0) κ u8 .typed s (v ∷ []) is-s .0)) $
         pass1 ! (init ! 14 refl (tt, record { fits = fits })) $ pass0 ! $
         move ! (21 ∷ []) $ fsplit ! $ move ! (1 ∷ []) $ drop ! $
@@ -290,7 +305,8 @@ module _ {M : Type 1} (𝓤 : URA M) (H : Heap 𝓤) (A : Atoms 𝓤) (W : Given
         use1 W (later (some (λ (r : Reader). ((‵ (flft κ q) ⊛ ‵ ftrue) ⊛ ‵ (B .own r (u ∷ [])))
         ⊛ raw (ensured 𝓤 H A new.ended (new.clauses 𝓤 H A at-mem run) (κ, tt) (s, tt) tt r)))) (id⊢ 𝓤 _) $ await ! tt $ pick ! (λ r.
         split ! $ move ! (1 ∷ []) $ use1 W (raw (fact 𝓤 (Fresh r))) (new-said r) $ heard ! (Fresh r) (λ e. split ! $ move ! (1 ∷ []) $
-        -- [what the reader owns; the token; the sheet's; room for _9; …; _8; …; _7; …; _6; …; _5; …; _4; …; _3; …; _2; …; _1; …; room for _0; …]
+        -- [what the reader owns; the token; the sheet's; room for _9; …; _8; …; _7;
+        -- …; _6; …; _5; …; _4; …; _3; …; _2; …; _1; …; room for _0; …]
         peeks ! B (Is B) (shows 𝓤 H A B) r (u ∷ []) (λ is-r.
         land ! (from ! (stop !)) (init ! 9 refl (LL.lawful (T.the-type αᵉ) (T′.the-laws αᵉ) 𝓤 H A W .typed r _ is-r .0)) $
         assigns ! (of-opd ! (load ! (from ! (stop !)) (look ! 9 refl))) (from ! (stop !))
@@ -312,7 +328,8 @@ module _ {M : Type 1} (𝓤 : URA M) (H : Heap 𝓤) (A : Atoms 𝓤) (W : Given
         calls-at ! fm (Peek 𝓤 H A at-mem run) known-peek (to-peek (set r)) (and-then ! (load ! (from ! (stop !)) (look ! 9 refl)) (no-more !)) (λ u₁.
         use1 W (later (some (λ (t : Reading). ((‵ (flft κ q) ⊛ ‵ ftrue) ⊛ ‵ (S.the-row .own t (u₁ ∷ [])))
         ⊛ raw (ensured 𝓤 H A peek.ended (peek.clauses 𝓤 H A at-mem run) (κ, tt) (set r, tt) tt t)))) (id⊢ 𝓤 _) $ await ! tt $ pick ! (λ t.
-        split ! $ move ! (1 ∷ []) $ use1 W (raw (fact 𝓤 (Seen (set r) t))) (peek-said (set r) t) $ heard ! (Seen (set r) t) (λ e₁. split ! $ move ! (1 ∷ []) $
+        split ! $ move ! (1 ∷ []) $ use1 W (raw (fact 𝓤 (Seen (set r) t))) (peek-said (set r) t) $
+        heard ! (Seen (set r) t) (λ e₁. split ! $ move ! (1 ∷ []) $
         peeks ! S.the-row (Is S.the-row) (shows 𝓤 H A S.the-row) t (u₁ ∷ []) (λ is-t. drop ! $
         -- [the token; what the reader owns; the sheet's; room for _9; …; _8; …; _7; …;
         -- _6; …; room for _5; …; room for _4; …; _3; …; _2; …; _1; …; room for _0; …]
@@ -322,22 +339,28 @@ module _ {M : Type 1} (𝓤 : URA M) (H : Heap 𝓤) (A : Atoms 𝓤) (W : Given
         move ! (15 ∷ 1 ∷ []) $ use2 W (‵ (mem B .lies (set r) l₃ 0)) (lies-in (set r) l₃) $
         lft-new ! tt (λ a. move ! (1 ∷ []) $
         use1 W (later
-        (some (λ (γ : GName). ‵ (MutRef (named 0) (a ∷ κ) B .own (lending (set r) a l₃ γ) (vptr l₃ 0 ∷ [])) ⊛ ‵ (flent (a ∷ κ) (Body (mem B) l₃ 0 γ)))))
+        (some (λ (γ : GName). ‵ (MutRef (named 0) (a ∷ κ) B .own (lending (set r) a l₃ γ) (vptr l₃ 0 ∷ []))
+        ⊛ ‵ (flent (a ∷ κ) (Body (mem B) l₃ 0 γ)))))
         (lends-ref 𝓤 H A W B (named 0) (a ∷ κ) (set r) l₃ 0) $ await ! tt $ pick ! (λ γ. split ! $
         -- [the reference; the lender's part; the new token; the token; the sheet's; …]
         move ! (3 ∷ []) $ split ! $ move ! (1 ∷ []) $ drop ! $
         use1 W (‵ (flft κ (PosShare·left q)) ⊛ ‵ (flft κ (PosShare·right q))) (W .lfts .lft-split κ q) $ split ! $
         move ! (4 ∷ 0 ∷ []) $
-        use2 W (‵ (flft (a ∷ κ) (PosShare·left q)) ⊛ raw (Rest 𝓤 H A W a (PosShare·left q))) (within-token 𝓤 H A W a κ (PosShare·left q)) $ split ! $
+        use2 W (‵ (flft (a ∷ κ) (PosShare·left q)) ⊛ raw (Rest 𝓤 H A W a (PosShare·left q))) (within-token 𝓤 H A W a κ (PosShare·left q)) $
+        split ! $
         -- [the token within; what is left; the token's right half; the reference; the lender's part; the sheet's; …]
         move ! (3 ∷ 0 ∷ 2 ∷ []) $ use3 W (raw (Next 𝓤 H A at-mem run .pre (to-next (set r) a l₃ γ))) (goes-next (set r) a l₃ γ) $
-        calls-at ! fm (Next 𝓤 H A at-mem run) known-next (to-next (set r) a l₃ γ) (and-then ! (load ! (from ! (stop !)) (look ! 4 refl)) (no-more !)) (λ u₂.
+        calls-at ! fm (Next 𝓤 H A at-mem run) known-next
+        (to-next (set r) a l₃ γ) (and-then ! (load ! (from ! (stop !)) (look ! 4 refl)) (no-more !)) (λ u₂.
         use1 W
-        (later (some (λ (t′ : Reading). ((‵ (flft (a ∷ κ) (PosShare·left q)) ⊛ ‵ (flft κ (PosShare·right q)) ⊛ ‵ ftrue) ⊛ ‵ (S.the-row .own t′ (u₂ ∷ [])))
-        ⊛ raw (ensured 𝓤 H A next.ended (next.clauses 𝓤 H A at-mem run) (a ∷ κ, (κ, tt)) (lending (set r) a l₃ γ, tt) tt t′)))) (id⊢ 𝓤 _) $
+        (later (some (λ (t′ : Reading).
+        ((‵ (flft (a ∷ κ) (PosShare·left q)) ⊛ ‵ (flft κ (PosShare·right q)) ⊛ ‵ ftrue) ⊛ ‵ (S.the-row .own t′ (u₂ ∷ [])))
+        ⊛ raw
+        (ensured 𝓤 H A next.ended (next.clauses 𝓤 H A at-mem run) (a ∷ κ, (κ, tt)) (lending (set r) a l₃ γ, tt) tt t′)))) (id⊢ 𝓤 _) $
         await ! tt $ pick ! (λ t′.
         split ! $ move ! (1 ∷ []) $
-        use1 W (some (λ (w : Reader). ‵ (fres γ (B .coded .code w)) ⊛ raw (fact 𝓤 (Yields (set r) a l₃ γ t′ w)))) (next-said (set r) a l₃ γ t′) $
+        use1 W (some (λ (w : Reader). ‵ (fres γ (B .coded .code w)) ⊛ raw (fact 𝓤 (Yields (set r) a l₃ γ t′ w))))
+        (next-said (set r) a l₃ γ t′) $
         pick ! (λ w. split ! $ move ! (1 ∷ []) $ heard ! (Yields (set r) a l₃ γ t′ w) (λ e₂.
         -- [the last value; the tokens and what the reading owns; what is left; the lender's part; the sheet's;
         -- _9; …; _8; …; _7; …; _6; …; room for _5; …; _4; …; what frees _3; _2; …; _1; …; room for _0; …]
@@ -357,7 +380,8 @@ module _ {M : Type 1} (𝓤 : URA M) (H : Heap 𝓤) (A : Atoms 𝓤) (W : Given
         assigns ! (agg ! (and-then ! (load ! (from ! (stop !)) (look ! 13 refl))
         (and-then ! (load ! (from ! (stop !)) (look ! 11 refl)) (and-then ! (load ! (from ! (stop !)) (look ! 5 refl)) (no-more !)))))
         (from ! (stop !)) (init ! 20 refl
-        (LL.lawful N.the-type N′.the-laws 𝓤 H A W .typed (outcome t t′ w) _ (stepped-is (outcome t t′ w) u₁ u₂ is-t is-t′ (place-fits w _ is-w)) .0)) $
+        (LL.lawful N.the-type N′.the-laws 𝓤 H A W .typed (outcome t t′ w) _
+        (stepped-is (outcome t t′ w) u₁ u₂ is-t is-t′ (place-fits w _ is-w)) .0)) $
         returns ! (look ! 20 refl) $ forget ! 0 refl $ forget ! 3 refl $ forget ! 5 refl $ forget ! 7 refl $
         forget ! 9 refl $ forget ! 11 refl $ forget ! 13 refl $ forget ! 16 refl $ forget ! 18 refl $ forget ! 20 refl $
         move ! (20 ∷ 21 ∷ []) $ free1 ! $ move ! (18 ∷ 19 ∷ []) $ free1 ! $ move ! (16 ∷ 17 ∷ []) $
@@ -365,7 +389,8 @@ module _ {M : Type 1} (𝓤 : URA M) (H : Heap 𝓤) (A : Atoms 𝓤) (W : Given
         move ! (10 ∷ 11 ∷ []) $ free1 ! $ move ! (8 ∷ 9 ∷ []) $ free1 ! $ move ! (6 ∷ 7 ∷ []) $
         free1 ! $ move ! (4 ∷ 5 ∷ []) $ free1 ! $ move ! (2 ∷ 3 ∷ []) $ free1 ! $ free0 ! $
         by ! (exits (outcome t t′ w) _
-        (promised r w t t′ e e₁ a l₃ γ e₂) (stepped-is (outcome t t′ w) u₁ u₂ is-t is-t′ (place-fits w _ is-w)) fits))))))))))))))))))))))))))))
+        (promised r w t t′ e e₁ a l₃ γ e₂)
+        (stepped-is (outcome t t′ w) u₁ u₂ is-t is-t′ (place-fits w _ is-w)) fits))))))))))))))))))))))))))))
 
 module _ {M : Type 1} (𝓤 : URA M) (H : Heap 𝓤) (A : Atoms 𝓤) (W : Given 𝓤 H A) (mem : Memory → SProp 𝓤) (run : Routine → Fun 𝓤) where
   step-walks : (C : Calls 𝓤 H) (Λ : Loops 𝓤 H) → FmC 𝓤 H (W .laws) C → Triple 𝓤 (C #reader·new) (New 𝓤 H A mem run)
@@ -377,8 +402,10 @@ module _ {M : Type 1} (𝓤 : URA M) (H : Heap 𝓤) (A : Atoms 𝓤) (W : Given
       (λ κs qs bounds a g are. via 𝓤 _
       (fst∗ 𝓤 _ (emp 𝓤)) (walk 𝓤 H A W mem run (κs .0) (qs .0) (a .0) (a .1 .0) C Λ fm known-new known-peek known-next (are .0) (are .1 .0 .1)))
 
-step-meets : {M : Type 1} (𝓤 : URA M) (H : Heap 𝓤) (A : Atoms 𝓤) (W : Given 𝓤 H A) (mem : Memory → SProp 𝓤) (run : Routine → Fun 𝓤) (𝓣 : Tables 𝓤 H)
-    → Triple 𝓤 (𝓣 .C #reader·new) (New 𝓤 H A mem run) → Triple 𝓤 (𝓣 .C #reader·peek) (Peek 𝓤 H A mem run) → Triple 𝓤 (𝓣 .C #reader·next) (Next 𝓤 H A mem run)
+step-meets : {M : Type 1} (𝓤 : URA M) (H : Heap 𝓤) (A : Atoms 𝓤) (W : Given 𝓤 H A)
+    (mem : Memory → SProp 𝓤) (run : Routine → Fun 𝓤) (𝓣 : Tables 𝓤 H)
+    → Triple 𝓤 (𝓣 .C #reader·new) (New 𝓤 H A mem run) → Triple 𝓤 (𝓣 .C #reader·peek) (Peek 𝓤 H A mem run)
+    → Triple 𝓤 (𝓣 .C #reader·next) (Next 𝓤 H A mem run)
     → Meets 𝓤 H A step.signature (WpFn 𝓤 H (𝓣 .C) (𝓣 .Λ) code.function) (step.spec 𝓤 H A mem run)
 step-meets 𝓤 H A W mem run 𝓣 known-new known-peek known-next =
     walk-meets 𝓤 H A step.ended stayed W
@@ -392,6 +419,9 @@ step-spec 𝓤 H 𝓜 𝓖 𝓡 =
     entered 𝓤 H (tripleOf 𝓤 H (𝓖 .A) step.signature (step.spec 𝓤 H (𝓖 .A) (𝓜 .mem) (𝓡 .run)))
     (tables 𝓤 H 𝓜 𝓡 code.env .C) (tables 𝓤 H 𝓜 𝓡 code.env .Λ) #reader·step code.function (code.unfolded 𝓤 H 𝓜 𝓡)
     (step-meets 𝓤 H (𝓖 .A) (givenOf 𝓤 H 𝓜 𝓖) (𝓜 .mem) (𝓡 .run) (tablesOf 𝓤 H 𝓜 (tables 𝓤 H 𝓜 𝓡 code.env))
-    (cited 𝓤 H (New 𝓤 H (𝓖 .A) (𝓜 .mem) (𝓡 .run)) 𝓜 𝓡 code.env #reader·new new-def.routine code.calls-reader·Reader·new (new-thm.met 𝓤 H 𝓜 𝓖 𝓡))
-    (cited 𝓤 H (Peek 𝓤 H (𝓖 .A) (𝓜 .mem) (𝓡 .run)) 𝓜 𝓡 code.env #reader·peek peek-def.routine code.calls-reader·Reader·peek (peek-thm.met 𝓤 H 𝓜 𝓖 𝓡))
-    (cited 𝓤 H (Next 𝓤 H (𝓖 .A) (𝓜 .mem) (𝓡 .run)) 𝓜 𝓡 code.env #reader·next next-def.routine code.calls-reader·Reader·next (next-thm.met 𝓤 H 𝓜 𝓖 𝓡)))
+    (cited 𝓤 H (New 𝓤 H (𝓖 .A) (𝓜 .mem) (𝓡 .run)) 𝓜 𝓡 code.env #reader·new new-def.routine code.calls-reader·Reader·new
+    (new-thm.met 𝓤 H 𝓜 𝓖 𝓡))
+    (cited 𝓤 H (Peek 𝓤 H (𝓖 .A) (𝓜 .mem) (𝓡 .run)) 𝓜 𝓡 code.env #reader·peek peek-def.routine code.calls-reader·Reader·peek
+    (peek-thm.met 𝓤 H 𝓜 𝓖 𝓡))
+    (cited 𝓤 H (Next 𝓤 H (𝓖 .A) (𝓜 .mem) (𝓡 .run)) 𝓜 𝓡 code.env #reader·next next-def.routine code.calls-reader·Reader·next
+    (next-thm.met 𝓤 H 𝓜 𝓖 𝓡)))

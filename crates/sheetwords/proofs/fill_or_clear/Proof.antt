@@ -58,7 +58,8 @@ returns-2 c =
     let at-filled2 = c .before .before .before .before .before .before .before .before .before .before .before .before .before .filled2 in
     let at-clear-words = c .before .before .before .before .before .before .before .before .before .before .clear-words in
     let at-clear-names = c .before .before .before .before .before .before .clear-names in
-    nothing-stays _ _ _ _ _ _ _ _ _ _ _ (at-fill .ensures) (at-filled2 .given .1) (at-clear-words .ensures ∙ ap (λ (n : ℕ). padded n []) (at-fill .kept .1 .0))
+    nothing-stays _ _ _ _ _ _ _ _ _ _ _
+    (at-fill .ensures) (at-filled2 .given .1) (at-clear-words .ensures ∙ ap (λ (n : ℕ). padded n []) (at-fill .kept .1 .0))
     (at-clear-names .ensures ∙ ap (λ (n : ℕ). padded n []) (at-fill .kept .1 .1 .0))
     (c .before .before .clear-heads .ensures ∙ ap (λ (n : ℕ). padded n []) (at-fill .kept .1 .1 .1 .0 ∙ ap length (entry .pre .1 .1 .1 .1)))
 

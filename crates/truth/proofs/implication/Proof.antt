@@ -15,7 +15,8 @@ refused-requires-2 : tie.Need-refused-requires-2
 refused-requires-2 c κs = search needs
 
 returns-2 : tie.Need-returns-2
-returns-2 c = c .refused2 .ensures ∙ second-refused _implies_ (c .before .before .before .args .v) (c .before .before .before .args .w) (c .before .if2 .taken)
+returns-2 c =
+    c .refused2 .ensures ∙ second-refused _implies_ (c .before .before .before .args .v) (c .before .before .before .args .w) (c .before .if2 .taken)
 
 mul-t11 : tie.Need-mul-t11
 mul-t11 c = search needs
