@@ -1,4 +1,4 @@
-/* marks FILE..: the mark of every name that heads a rule in a sheet, or what is wrong with the sheet, and where.
+/* marks FILE..: the mark of every name in a sheet, or what is wrong with the sheet, and where.
  *
  *     cc marks.c $(pkg-config --cflags --libs simmerknot) -o marks && ./marks season.sheet
  */

@@ -22,8 +22,8 @@
  *         return 0;
  *     }
  *
- * It prints arrived i, logged t and gap t, each name and letter parted by a tab: two sources contradict each other on the
- * first. Build it with cc host.c $(pkg-config --cflags --libs simmerknot).
+ * It prints arrived i, logged t, mailed u and gap t, each name and letter parted by a tab: two sources contradict each other on
+ * the first, and nobody spoke of the third. Build it with cc host.c $(pkg-config --cflags --libs simmerknot).
  *
  * What holds for every call:
  * - It takes any bytes and any lengths, ends, and answers by one number; simmerknot_refused tells which kind it is.
@@ -46,9 +46,9 @@ extern "C" {
 /* Version. */
 
 #define SIMMERKNOT_VERSION_MAJOR 0
-#define SIMMERKNOT_VERSION_MINOR 1
+#define SIMMERKNOT_VERSION_MINOR 2
 #define SIMMERKNOT_VERSION_PATCH 0
-#define SIMMERKNOT_VERSION_TEXT "0.1.0"
+#define SIMMERKNOT_VERSION_TEXT "0.2.0"
 
 /* The version as one number, to compare with simmerknot_version(). */
 #define SIMMERKNOT_VERSION (1000000 * SIMMERKNOT_VERSION_MAJOR + 1000 * SIMMERKNOT_VERSION_MINOR + SIMMERKNOT_VERSION_PATCH)
@@ -89,8 +89,8 @@ uint64_t simmerknot_evaluate(uint64_t n, const uint8_t *table, size_t table_len,
  * Written: every whole entry of `words` and `names`. If accepted, `words` begins with the sheet's rules as a table, one record to a
  *   line, and `names` with one entry for each atom, in atom order: 32 x the place of the name's first appearance + its length,
  *   four bytes, low byte first. All entries after these are zero; on a refusal all are, also where the buffer was too small.
- *   If accepted, `text` begins with the value sheet: for each atom that heads a rule, in atom order, its name, tab, one letter
- *   f, u, i or t, byte 10.
+ *   If accepted, `text` begins with the value sheet: for each atom, in atom order, its name, tab, one letter f, u, i or t, byte 10.
+ *   So it has a line for each name of the sheet, also for one that heads no rule, and no name twice.
  * Untouched: `sheet`; bytes after the last whole word and after the last whole name entry; the bytes of `text` past the value
  *   sheet; all of `text` on a refusal. */
 uint64_t simmerknot_sheet(const uint8_t *sheet, size_t sheet_len, uint8_t *words, size_t words_len, uint8_t *names, size_t names_len,

@@ -220,10 +220,33 @@ static size_t lines_of(const uint8_t *sheet, size_t len) {
     return lines;
 }
 
+/* The length of the literal, or of the line's name, that starts there. */
+static size_t part_len(const uint8_t *text, size_t at, size_t len) {
+    size_t end = at;
+    while (end < len && text[end] != '\t' && text[end] != ' ' && text[end] != '\n') end++;
+    return end - at;
+}
+
+/* Every literal of the sheet, read byte by byte, has its name in one line of the value sheet. */
+static void check_looked_up(const uint8_t *sheet, size_t sheet_len, const uint8_t *text, size_t text_len) {
+    size_t at = 0;
+    while (at < sheet_len) {
+        const size_t name = at + (sheet[at] == '-'), len = part_len(sheet, name, sheet_len);
+        size_t line = 0, found = 0;
+        while (line < text_len) {
+            const size_t shown = part_len(text, line, text_len);
+            found += shown == len && memcmp(text + line, sheet + name, len) == 0;
+            line += shown + 3;
+        }
+        check(found == 1, "a name of the sheet has no line, or two");
+        at = name + len + 1;
+    }
+}
+
 /* What an accepted sheet left: names that stand in the sheet, one record a line, zeros after both, and a value sheet that says
- * of each headed atom, in atom order, what an evaluation of those very words says. */
+ * of each name, in atom order, what an evaluation of those very words says. */
 static void check_accepted(const uint8_t *sheet, size_t sheet_len, struct lent w, struct lent n, struct lent t, size_t text_len) {
-    static uint8_t headed[512], values[512];
+    static uint8_t values[512];
     size_t atoms = 0, at = 0, line, lines = lines_of(sheet, sheet_len), i, text = 0;
     while (atoms < n.len / 4 && simmerknot_name_entry(n.at, atoms) != 0) {
         const uint32_t entry = simmerknot_name_entry(n.at, atoms++);
@@ -232,11 +255,9 @@ static void check_accepted(const uint8_t *sheet, size_t sheet_len, struct lent w
     }
     check(atoms <= 512, "more than 512 atoms");
     check_zero(n, 4 * atoms, n.len / 4 * 4, "a name entry after the last is not zero");
-    memset(headed, 0, sizeof headed);
     for (line = 0; line < lines; line++) {
         size_t groups;
         check(at + 1 < 8192, "a record outside the words");
-        headed[(w.at[2 * at] + 256u * w.at[2 * at + 1]) / 2 % 512] = 1;
         groups = w.at[2 * at + 2];
         at += 2;
         for (i = 0; i < groups; i++) at += 1u + w.at[2 * at];
@@ -247,7 +268,6 @@ static void check_accepted(const uint8_t *sheet, size_t sheet_len, struct lent w
     for (i = 0; i < atoms; i++) {
         const uint32_t entry = simmerknot_name_entry(n.at, i);
         const size_t len = simmerknot_name_len(entry);
-        if (!headed[i]) continue;
         check(text + len + 3 <= text_len, "the value sheet is too short");
         check(memcmp(t.at + text, sheet + simmerknot_name_place(entry), len) == 0, "another name");
         check(t.at[text + len] == '\t' && t.at[text + len + 2] == '\n', "not a line");
@@ -255,6 +275,7 @@ static void check_accepted(const uint8_t *sheet, size_t sheet_len, struct lent w
         text += len + 3;
     }
     check(text == text_len, "the value sheet is too long");
+    check_looked_up(sheet, sheet_len, t.at, text_len);
 }
 
 static uint64_t read_sheet(const uint8_t *sheet, size_t sheet_len, size_t words_len, size_t names_len, size_t text_len) {
@@ -297,7 +318,17 @@ static const struct sheet_case sheet_cases[] = {
     {"a\n", 40001, 5003, 4, 0, 4},
     {"-b\tb\n", 16384, 2048, 4, 0, 4},
     {"a\tc\nb\nc\n", 16384, 2048, 12, 0, 12},
-    {"arrived\tlogged\tmailed\nlogged\n-arrived\tgap\ngap\nscored\tarrived audited\naudited\n", 16384, 2048, 44, 0, 44},
+    {"arrived\tlogged\tmailed\nlogged\n-arrived\tgap\ngap\nscored\tarrived audited\naudited\n", 16384, 2048, 53, 0, 53},
+    {"arrived\tlogged\tmailed\nlogged\n-arrived\tgap\ngap\nscored\tarrived audited\naudited\n", 16384, 2048, 52, 15, 53},
+    {"arrived\tlogged\tmailed\nlogged\n-arrived\tgap\ngap\nscored\tarrived audited\naudited\n", 16384, 2048, 44, 15, 53},
+    {"p\tq -r\n", 16384, 2048, 12, 0, 12},
+    {"p\tq -r\n", 16387, 2051, 13, 0, 12},
+    {"p\tq -r\n", 16384, 2048, 11, 15, 12},
+    {"p\tq -r\n", 16384, 2048, 4, 15, 12},
+    {"p\tq -r\n", 16384, 2048, 0, 15, 12},
+    {"p\tlonger.than.p\t-q longer.than.p\n", 16384, 2048, 24, 0, 24},
+    {"p\tlonger.than.p\t-q longer.than.p\n", 16384, 2048, 23, 15, 24},
+    {"p\tlonger.than.p\t-q longer.than.p\n", 16384, 2048, 4, 15, 24},
     {"a\n", 16384, 2048, 3, 15, 4},
     {"a\n", 16384, 2048, 0, 15, 4},
     {"a\n", 16383, 2048, 4, 9, 0},
@@ -341,10 +372,20 @@ static void long_sheets(void) {
     }
     what = "513 names";
     check(read_sheet((uint8_t *)sheet, len, 16384, 2048, 13824) == refusal(12, at), "another answer");
+    /* One head, the other names in eight groups of its body. */
+    for (i = 0, len = 0; i < 512; i++) {
+        len += (size_t)sprintf(sheet + len, "%sn%023lu", i == 0 ? "" : i % 64 == 1 ? "\t" : " ", (unsigned long)i);
+    }
+    sheet[len++] = '\n';
+    what = "512 names of 24 bytes, 511 of them only in bodies";
+    check(read_sheet((uint8_t *)sheet, len, 16384, 2048, 13824) == 13824, "another answer");
+    check(read_sheet((uint8_t *)sheet, len, 16384, 2048, 13823) == refusal(15, 13824), "another answer");
+    check(read_sheet((uint8_t *)sheet, len, 16384, 2048, 27) == refusal(15, 13824), "another answer");
     for (i = 0, len = (size_t)sprintf(sheet, "a"); i < 64; i++) len += (size_t)sprintf(sheet + len, "\tb");
     strcpy(sheet + len, "\n");
     what = "64 groups";
-    check(read_sheet((uint8_t *)sheet, len + 1, 16384, 2048, 4) == 4, "another answer");
+    check(read_sheet((uint8_t *)sheet, len + 1, 16384, 2048, 8) == 8, "another answer");
+    check(read_sheet((uint8_t *)sheet, len + 1, 16384, 2048, 4) == refusal(15, 8), "another answer");
     strcpy(sheet + len, "\tb\n");
     what = "65 groups";
     check(read_sheet((uint8_t *)sheet, len + 3, 16384, 2048, 4) == refusal(13, len + 1), "another answer");
@@ -429,28 +470,44 @@ static void random_sheets(unsigned long count) {
     }
 }
 
-/* Random sheets of that kind are nearly all refused; these are rules over few names, so nearly all are accepted. */
+/* Random sheets of that kind are nearly all refused; these are rules over few names of two bytes, some of which stand only in
+ * bodies, so all are accepted if the text room is large enough for the lines of every name. */
 static void random_rules(unsigned long count) {
+    const unsigned long all = count;
+    unsigned long with_others = 0, without_room = 0;
     char sheet[600];
     what = "random rules";
     while (count--) {
-        const size_t atoms = 1 + below(6), head_from = below(2);
-        size_t len = 0, head;
+        const size_t atoms = 1 + below(6), in_bodies = atoms + below(4), head_from = below(2);
+        size_t len = 0, head, name, room, needed = 0, heads = 0;
+        uint8_t headed[9] = {0}, met[9] = {0};
         for (head = head_from; head < 2 * atoms; head += 1 + below(2)) {
             size_t groups = below(4);
+            headed[head / 2] = met[head / 2] = 1;
             len += (size_t)sprintf(sheet + len, "%sn%lu", head % 2 ? "-" : "", (unsigned long)(head / 2));
             while (groups--) {
                 size_t k = 1 + below(3);
                 const char *part = "\t";
                 while (k--) {
-                    len += (size_t)sprintf(sheet + len, "%s%sn%lu", part, below(2) ? "-" : "", (unsigned long)below(atoms));
+                    name = below(in_bodies);
+                    met[name] = 1;
+                    len += (size_t)sprintf(sheet + len, "%s%sn%lu", part, below(2) ? "-" : "", (unsigned long)name);
                     part = " ";
                 }
             }
             sheet[len++] = '\n';
         }
-        check(!simmerknot_refused(read_sheet((uint8_t *)sheet, len, 16384, 2048, 30 + below(9))), "refused");
+        for (name = 0; name < in_bodies; name++) {
+            needed += 5u * met[name];
+            heads += 5u * headed[name];
+        }
+        room = below(4) ? needed + below(9) : below(2) ? heads : needed - (needed > 0);
+        with_others += heads < needed;
+        without_room += room < needed;
+        check(read_sheet((uint8_t *)sheet, len, 16384, 2048, room) == (room < needed ? refusal(15, needed) : needed), "another answer");
     }
+    check(2 * with_others >= all, "names that stand only in bodies are rare");
+    check(10 * without_room >= all, "rooms that are too small are rare");
 }
 
 int main(int argc, char **argv) {

@@ -24,14 +24,3 @@ pub fn clear_names(names: &mut [u32])
         i += 1;
     }
 }
-
-// No head is flagged.
-pub fn clear_heads(heads: &mut [u64])
-    ensures { λ _. ⌜ now (heads .exit) ≡ padded (length (now (heads .entry))) [] ⌝ }
-{
-    let mut i: usize = 0;
-    while i < heads.len() {
-        heads[i] = 0;
-        i += 1;
-    }
-}

@@ -1,18 +1,18 @@
 -- The three demands, about what the public entries promise: in the demands' order, and nothing else. Each is proved by the room it cites. Assumes nothing.
 use mathlib.Core.Bool.{true, false}
-use mathlib.Core.List.{List, [], _++_}
+use mathlib.Core.List.{List, [], _∷_, _++_}
 use mathlib.Core.Logic.{_↔_, _⊎_, ⊎-elim}
 use mathlib.Core.Path.{_≡_, refl, sym, _∙_, subst⁻¹}
 use Prim.Native.Nat.{ℕ, _+_, _≤_, _<_, _/_}
 use lib.Dec.{leb}
-use lib.ListN.{length, take, drop}
+use lib.ListN.{length, getD, take, drop}
 use Rattle.limits.specs.Limits.{mostAtoms}
 use Rattle.refusal.specs.declared.Refusal.{Refusal}
 use Rattle.refusal.specs.Numbers.{too-many-atoms, not-settled, text-room-too-small, not-a-truth-code}
 use Rattle.paper.specs.Table1.{Value, code, _and_, _or_, not′, _implies_}
 use Rattle.paper.specs.Rules.{positive}
 use Rattle.sets.specs.Sets.{_∈_, count}
-use Rattle.paper.specs.Definitions.{Interpretation, value, SmallestWellSupported}
+use Rattle.paper.specs.Definitions.{Interpretation, value, Smallest, SmallestWellSupported}
 use Rattle.paper.specs.Marking.{Marked, Unmarked, CanBeMarked, Settled, IsHeld, settledValue, inconsistent}
 use Rattle.paper.proofs.Theorems.{smallest-by-test, smallest-exists}
 use Rattle.refusal.specs.declared.Numbered.{Numbered}
@@ -42,17 +42,24 @@ use Rattle.evaluation.proofs.Evaluated as evaluated
 use Rattle.evaluation.proofs.Laws.{evaluation-determined}
 use Rattle.demands.proofs.Report.{evaluation-equals-report}
 use Rattle.reader.specs.declared.Reading.{Reading}
+use Rattle.reader.specs.declared.Reading.the-variants.{End, Literal}
+use Rattle.reader.specs.declared.SheetLiteral.{SheetLiteral}
 use Rattle.reader.specs.declared.Next.{Next}
 use Rattle.reader.specs.Readings.{readingAt, nextAt, GivesOnly, NoLiteral, reached}
 use Rattle.reader.proofs.Laws as reader
+use Rattle.names.specs.Names.{bytesAt, nameOf}
 use Rattle.literals.specs.Literals.{Sofar}
 use Rattle.sheetwords.specs.Sheets.{sheetOutcome}
 use Rattle.sheetwords.specs.Sheets as sheet
+use Rattle.sheetwords.proofs.Names.{read-to-the-end}
 use Rattle.buffers.specs.Padded.{padded}
+use Rattle.valuesheet.specs.ValueSheet.{letterOf, lineFor}
+use Rattle.valuesheet.specs.Lines.{lines}
 use Rattle.sheets.specs.declared.SheetCounts.{SheetCounts}
 use Rattle.sheets.specs.declared.SheetAnswer.{SheetAnswer}
 use Rattle.sheets.specs.SheetEntry.{sheetOf, counts, SheetAllows}
-use Rattle.sheets.proofs.Laws.{sheet-one-rule, sheet-determined, leaves-a-table}
+use Rattle.sheets.proofs.Laws.{sheet-one-rule, sheet-determined, Leaves, accepted-leaves, leaves-a-table}
+use Rattle.sheets.proofs.Lines.{as-many-lines, line-of-atom, literal-has-line, lines-differ, as-many-lines-left, line-left, literal-has-line-left, names-left-apart, literal-has-name-left, name-left-is-written}
 use Rattle.host.specs.Bytes.{wordsIn, loneByte}
 use Rattle.host.specs.Evaluation.{hostFault, packed, HostEvaluation}
 use Rattle.host.proofs.Determined.{host-accepted, host-determined, host-answer-tells, zero-exactly-if-accepted}
@@ -296,7 +303,7 @@ module _ (s : List ℕ) (wordRoom nameRoom : ℕ) (text : List ℕ) (x : Sofar) 
   -- the words that an accepted sheet leaves are an accepted table for the N that it answers, with the sheet's rules
   pub sheet-leaves-a-table : {c : SheetCounts} {ws ns text′ : List ℕ} → SheetAllows s wordRoom nameRoom text (SheetAnswer.Accepted c) ws ns text′
       → AcceptedTable (c .atoms) (take (c .words) ws) × (rulesOf (take (c .words) ws) ≡ x .rules)
-  sheet-leaves-a-table {c} o = leaves-a-table s wordRoom nameRoom text o c refl x read
+  sheet-leaves-a-table {c} o = leaves-a-table s wordRoom nameRoom c _ _ _ (accepted-leaves s wordRoom nameRoom text o c refl) x read
 
   module _ (I : Interpretation) (smallest : SmallestWellSupported (x .rules) I) where
     -- the value sheet by the written layout, with the values of the model ..
@@ -335,6 +342,74 @@ module _ (s words names text : List ℕ) (x : Sofar) (read : sheetOutcome s (len
   host-sheet-does-not-fit h o =
       let one = sheet-one-rule s (length words / 2) (length names / 4) x read in
       host-sheet-determined s words names text o (HostSheet.answered (SheetAllows.does-not-fit read (smallest-by-test (x .rules) one I .1 smallest) h))
+
+-- every name has its line. By the counts that the sheet entry answers and the buffers that it leaves:
+module _ (s : List ℕ) (wordRoom nameRoom : ℕ) (text : List ℕ) {c : SheetCounts} {ws ns text′ : List ℕ}
+    (o : SheetAllows s wordRoom nameRoom text (SheetAnswer.Accepted c) ws ns text′) where
+  left : Leaves s wordRoom nameRoom c ws ns text′
+  left = accepted-leaves s wordRoom nameRoom text o c refl
+
+  -- the names are pairwise different ..
+  pub names-differ : (a b : ℕ) → a < c .atoms → b < c .atoms → nameOf s (getD ns a 0) ≡ nameOf s (getD ns b 0) → a ≡ b
+  names-differ = names-left-apart s wordRoom nameRoom c ws ns text′ left
+
+  -- .. every literal of the sheet has one of them ..
+  pub literal-has-a-name : (i : ℕ) (l : SheetLiteral) → readingAt s (reached s 0 i) ≡ Literal l
+      → (a : ℕ) × (a < c .atoms) × (nameOf s (getD ns a 0) ≡ bytesAt s (l .start) (l .len))
+  literal-has-a-name = literal-has-name-left s wordRoom nameRoom c ws ns text′ left
+
+  -- .. none is left out, since the reader has come to the sheet's end ..
+  pub sheet-is-read-to-its-end : (i : ℕ) × (reached s 0 i ≡ length s) × (readingAt s (reached s 0 i) ≡ End)
+  sheet-is-read-to-its-end = read-to-the-end s wordRoom nameRoom (left .sofar) (left .read)
+
+  -- .. and each name is that of a literal
+  pub name-has-a-literal : (a : ℕ) → a < c .atoms
+      → (i : ℕ) × (l : SheetLiteral) × (readingAt s (reached s 0 i) ≡ Literal l) × (nameOf s (getD ns a 0) ≡ bytesAt s (l .start) (l .len))
+  name-has-a-literal = name-left-is-written s wordRoom nameRoom c ws ns text′ left
+
+  module _ (I : Interpretation) (smallest : SmallestWellSupported (rulesOf (take (c .words) ws)) I) where
+    by-test : Smallest (rulesOf (take (c .words) ws)) I
+    by-test =
+        let table = leaves-a-table s wordRoom nameRoom c ws ns text′ left (left .sofar) (left .read) .0 in
+        smallest-by-test _ (accepted-one-rule (c .atoms) (take (c .words) ws) table) I .1 smallest
+
+    -- the value sheet has exactly N lines, and line a (from 0) is the bytes of atom a's name, a tab, the letter of its value, byte 10
+    pub value-sheet-lines : (length (lines (take (c .bytes) text′)) ≡ c .atoms)
+        × ((a : ℕ) → a < c .atoms → getD (lines (take (c .bytes) text′)) a [] ≡ lineFor s (getD ns a 0) (code (value I (positive a))))
+    value-sheet-lines = (as-many-lines-left s wordRoom nameRoom c ws ns text′ left I by-test, line-left s wordRoom nameRoom c ws ns text′ left I by-test)
+
+    -- so no run that anybody wrote down can fall out
+    pub literal-has-its-line : (i : ℕ) (l : SheetLiteral) → readingAt s (reached s 0 i) ≡ Literal l
+        → (a : ℕ) × (a < length (lines (take (c .bytes) text′)))
+        × (getD (lines (take (c .bytes) text′)) a [] ≡ bytesAt s (l .start) (l .len) ++ (9 ∷ letterOf (code (value I (positive a))) ∷ 10 ∷ []))
+    literal-has-its-line = literal-has-line-left s wordRoom nameRoom c ws ns text′ left I by-test
+
+-- and so for the host's, over bytes
+module _ (s words names text : List ℕ) (x : Sofar) (read : sheetOutcome s (length words / 2) (length names / 4) ≡ sheet.accepted x)
+    (I : Interpretation) (smallest : SmallestWellSupported (x .rules) I) {answer : ℕ} {ws ns text′ : List ℕ}
+    (fits : length (sheetOf s x I) ≤ length text) (o : HostSheet s words names text answer ws ns text′) where
+  pub host-value-sheet-lines : (length (lines (take answer text′)) ≡ length (x .names))
+      × ((a : ℕ) → a < length (x .names) → getD (lines (take answer text′)) a [] ≡ lineFor s (getD (x .names) a 0) (code (value I (positive a))))
+  host-value-sheet-lines =
+      let is = host-sheet-values s words names text x read I smallest fits o in (
+        as-many-lines s (length words / 2) (length names / 4) x read I answer text′ _ (is .0) (is .3),
+        line-of-atom s (length words / 2) (length names / 4) x read I answer text′ _ (is .0) (is .3),
+      )
+
+  pub host-literal-has-its-line : (i : ℕ) (l : SheetLiteral) → readingAt s (reached s 0 i) ≡ Literal l
+      → (a : ℕ) × (a < length (lines (take answer text′)))
+      × (getD (lines (take answer text′)) a [] ≡ bytesAt s (l .start) (l .len) ++ (9 ∷ letterOf (code (value I (positive a))) ∷ 10 ∷ []))
+  host-literal-has-its-line =
+      let is = host-sheet-values s words names text x read I smallest fits o in
+      literal-has-line s (length words / 2) (length names / 4) x read I answer text′ _ (is .0) (is .3)
+
+  -- and no name stands in two lines
+  pub host-names-differ : (a b : ℕ) → a < length (lines (take answer text′)) → b < length (lines (take answer text′))
+      → (name : List ℕ) (v w : ℕ) → getD (lines (take answer text′)) a [] ≡ name ++ (9 ∷ v ∷ 10 ∷ [])
+      → getD (lines (take answer text′)) b [] ≡ name ++ (9 ∷ w ∷ 10 ∷ []) → a ≡ b
+  host-names-differ =
+      let is = host-sheet-values s words names text x read I smallest fits o in
+      lines-differ s (length words / 2) (length names / 4) x read I answer text′ _ (is .0) (is .3)
 
 -- ---- Demand 3. The order of work never matters: one accepted table, a fresh record, every list of picks.
 

@@ -27,11 +27,10 @@ use Rattle.reader.specs.Sheet.{byteAt, isLineEnd, isTab, isSpace, isMinus, star
 use Rattle.refusal.specs.Checks.{demanding}
 use Rattle.reader.specs.Readings.{endedName, nameAt, literalAt, lineAt, readingAfter, readingAt, placeAfter}
 use Rattle.reader.proofs.Laws.{literal-read}
-use Rattle.literals.specs.Literals.{Sofar, nothing, after, isHead, literalFault, faultWith}
+use Rattle.literals.specs.Literals.{Sofar, nothing, after, literalFault, faultWith}
 use Rattle.sheetwords.specs.Sheets.{Outcome, accepted, refused, unless, byReading, sheetFrom, sheetOutcome}
 use Rattle.sheetwords.proofs.Laws.{sheet-within}
-use Rattle.valuesheet.specs.ValueSheet.{hasLine}
-use Rattle.valuesheet.specs.Fitting.{lineBytes, bytesFrom}
+use Rattle.valuesheet.specs.Fitting.{bytesFor}
 use Rattle.valuesheet.proofs.Printing.{lines-length}
 use Rattle.sheets.specs.declared.SheetAnswer.{SheetAnswer}
 use Rattle.sheets.specs.SheetEntry.{SheetAllows, sheetOf}
@@ -135,21 +134,17 @@ outcome-small s wordRoom nameRoom =
     (demanding-small (leb 8192 wordRoom && leb 512 nameRoom) _ _ (omega arith, omega arith, omega arith) (from-small (length s + 1) s 0 nothing))
 
 -- a line has at most 34 bytes
-line-small : (shown : Bool) (e : ℕ) → lineBytes shown e ≤ 34
-line-small true e = omega arith
-line-small false e = omega arith
-
-lines-small : (heads : ℕ → Bool) (a : ℕ) (es : List ℕ) → bytesFrom heads a es ≤ 34 * length es
-unfolding bytesFrom
-lines-small heads a [] = omega arith
-lines-small heads a (e ∷ es) = omega (arith, line-small (hasLine heads a) e, lines-small heads (suc a) es)
+lines-small : (es : List ℕ) → bytesFor es ≤ 34 * length es
+unfolding bytesFor
+lines-small [] = omega arith
+lines-small (e ∷ es) = omega (arith, lines-small es)
 
 -- every value sheet's length is below the low half's end
 value-sheet-is-short : (s : List ℕ) (wordRoom nameRoom : ℕ) (x : Sofar) (I : Interpretation)
     → sheetOutcome s wordRoom nameRoom ≡ accepted x → length (sheetOf s x I) < 4294967296
 value-sheet-is-short s wordRoom nameRoom x I e =
     let few = sheet-within s wordRoom nameRoom x e .at-most-512 in
-    omega (arith, few, lines-length s (isHead (x .rules)) (λ a. code (value I (positive a))) 0 (x .names), lines-small (isHead (x .rules)) 0 (x .names))
+    omega (arith, few, lines-length s (λ a. code (value I (positive a))) 0 (x .names), lines-small (x .names))
 
 -- a refusal's number is not 0, and number and place have room in the answer
 packs : (s : List ℕ) (wordRoom nameRoom : ℕ) (text : List ℕ) {r : SheetAnswer} {ws ns text′ : List ℕ}

@@ -225,9 +225,10 @@ names-kept a l names ns n is h = by (ltb a (length names)) h
     by true h = is
     by false h = ap (λ (t : List ℕ). set t (length names) (entryFor (l .start) (l .len))) is ∙ put1 n names (entryFor (l .start) (l .len)) h
 
-pub in-front : (n : ℕ) (l : List ℕ) → take (length l) (padded n l) ≡ l
+-- what a buffer has been filled with
+pub in-front : (n room : ℕ) (l ws : List ℕ) → n ≡ length l → ws ≡ padded room l → take n ws ≡ l
 unfolding padded
-in-front n l = take-at l (replicate (n - length l) 0) (length l) refl
+in-front n room l ws e is = ap (take n) is ∙ take-at l (replicate (room - length l) 0) n (sym e)
 
 -- the buffers keep their lengths
 pub words-length : (role : Role) (c : ℕ) (k : Counts) (ws : List ℕ) → length (putWords role c k ws) ≡ length ws

@@ -39,6 +39,20 @@ number-names s (e ∷ es) name h = by (sameBytes (nameOf s e) name) refl h (numb
     by true q g onward = same-bytes-equal (nameOf s e) name q
     by false q g onward = onward (omega arith)
 
+-- a name that an entry has is not new
+pub number-new : (s es name : List ℕ) (a : ℕ) → a < length es → nameOf s (getD es a 0) ≡ name → numberIn s es name < length es
+unfolding numberIn
+number-new s [] name a h q = absurd (omega arith)
+number-new s (e ∷ es) name a h q = by a h q (sameBytes (nameOf s e) name) refl (number-new s es name)
+  where
+    by : (a : ℕ) → a < suc (length es) → nameOf s (getD (e ∷ es) a 0) ≡ name → (b : Bool) → sameBytes (nameOf s e) name ≡ b
+        → ((c : ℕ) → c < length es → nameOf s (getD es c 0) ≡ name → numberIn s es name < length es)
+        → cond b 0 (suc (numberIn s es name)) < suc (length es)
+    by a h q true r onward = omega arith
+    by zero h q false r onward =
+        absurd (true≢false (sym (ap (sameBytes (nameOf s e)) (sym q) ∙ equal-same-bytes (nameOf s e)) ∙ r))
+    by (suc c) h q false r onward = omega (arith, onward c (omega arith) q)
+
 -- a name's bytes are those of the sheet, where it lies in the sheet
 pub bytes-of-sheet : (s : List ℕ) (q n : ℕ) → q + n ≤ length s → bytesAt s q n ≡ take n (drop q s)
 unfolding bytesAt

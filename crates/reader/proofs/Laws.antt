@@ -21,7 +21,7 @@ use Rattle.reader.specs.Sheet.{byteAt, isTab, isLineEnd, isSpace, isMinu
 use Rattle.refusal.specs.Checks.{demanding}
 use Rattle.refusal.proofs.Laws.{demanding-met, demanding-holds}
 use Rattle.reader.specs.Readings.{endedName, nameAt, literalAt, lineAt, readingAfter, readingAt, placeAfter, nextAt, ReadersNumber, GivesOnly, NoLiteral, reached}
-use Rattle.reader.proofs.Runs.{inside-by, run-on}
+use Rattle.reader.proofs.Runs.{inside-by, run-on, run-bytes}
 
 pub refused-is-no-literal : (r : Refusal) (l : SheetLiteral) → Refused r ≡ Literal l → ⊥
 refused-is-no-literal r l e = let z : _≡_ {A = ℕ} 0 1 = cc in omega arith
@@ -46,6 +46,7 @@ pub record Named (s : List ℕ) (p : ℕ) (role : Role) (l : SheetLiteral) : Typ
   pub not-empty : 1 ≤ l .len
   pub at-most-24 : l .len ≤ 24
   pub inside : l .start + l .len < length s
+  pub in-run : (i : ℕ) → i < l .len → continuesName (byteAt s (l .start + i)) ≡ true
   pub followed : mayFollow (l .role) (byteAt s (l .start + l .len)) ≡ true
   pub of-role : l .role ≡ role
 
@@ -68,9 +69,9 @@ run-not-empty : (s : List ℕ) (q : ℕ) → startsName (byteAt s q) ≡ true �
 run-not-empty s q e = omega (arith, run-on s q (starts-continues (byteAt s q) e))
 
 named-ended : (s : List ℕ) (p q n : ℕ) (negated : Bool) (role : Role) (l : SheetLiteral) → p ≤ q → q ≤ p + 1 → 1 ≤ n
-    → endedName s q n negated role ≡ Literal l → Named s p role l
+    → ((i : ℕ) → i < n → continuesName (byteAt s (q + i)) ≡ true) → endedName s q n negated role ≡ Literal l → Named s p role l
 unfolding endedName
-named-ended s p q n negated role l h h′ some e =
+named-ended s p q n negated role l h h′ some run e =
     let first = demanding-literal (leb n 24) _ _ l e in
     let second = demanding-literal (mayFollow role (byteAt s (q + n))) _ _ l (first .1) in
     let same : record { negated = negated; start = q; len = n; role = role } ≡ l = cc (second .1) in
@@ -81,6 +82,7 @@ named-ended s p q n negated role l h h′ some e =
       not-empty = some;
       at-most-24 = leb-true n 24 (first .0);
       inside = inside-by (mayFollow role) (nothing-follows-the-end role) s (q + n) (second .0);
+      in-run = run;
       followed = second .0;
       of-role = refl;
     })
@@ -90,7 +92,7 @@ named-name : (s : List ℕ) (p q : ℕ) (negated : Bool) (role : Role) (l : Shee
 unfolding nameAt
 named-name s p q negated role l h h′ e =
     let first = demanding-literal (startsName (byteAt s q)) _ _ l e in
-    named-ended s p q (nameRun (drop q s)) negated role l h h′ (run-not-empty s q (first .0)) (first .1)
+    named-ended s p q (nameRun (drop q s)) negated role l h h′ (run-not-empty s q (first .0)) (run-bytes s q) (first .1)
 
 named-literal : (s : List ℕ) (p : ℕ) (role : Role) (l : SheetLiteral) → literalAt s p role ≡ Literal l → Named s p role l
 unfolding literalAt
@@ -165,39 +167,55 @@ place-fits s p (Refused r) h e = h
 place-fits s p (Literal l) h e =
     omega (arith, literal-read s p l (sym e) .sheet-fits, literal-read s p l (sym e) .named .inside)
 
-demanding-gives : (b : Bool) (r : Refusal) (rest : Reading) → ReadersNumber (r .number) → GivesOnly rest → GivesOnly (demanding Refused b r rest)
-demanding-gives b r rest h g = demanding-holds GivesOnly Refused b r rest h (λ e. g)
+-- what holds of every refusal by 8, 10 or 11, of every literal, and of the end at the sheet's end, holds of every reading
+module _ (P : Reading → Type 0) (refusals : (r : Refusal) → ReadersNumber (r .number) → P (Refused r)) (literals : (l : SheetLiteral) → P (Literal l))
+    (s : List ℕ) where
+  tested : (b : Bool) (r : Refusal) (rest : Reading) → ReadersNumber (r .number) → P rest → P (demanding Refused b r rest)
+  tested b r rest h g = demanding-holds P Refused b r rest (refusals r h) (λ e. g)
 
-cond-gives : (b : Bool) (x y : Reading) → GivesOnly x → GivesOnly y → GivesOnly (cond b x y)
-cond-gives true x y g h = g
-cond-gives false x y g h = h
+  either : (b : Bool) (x y : Reading) → P x → P y → P (cond b x y)
+  either true x y g h = g
+  either false x y g h = h
 
-ended-gives : (s : List ℕ) (q n : ℕ) (negated : Bool) (role : Role) → GivesOnly (endedName s q n negated role)
-unfolding endedName
-ended-gives s q n negated role =
-    demanding-gives (leb n 24) _ _ (inr (inr refl)) (demanding-gives (mayFollow role (byteAt s (q + n))) _ _ (inr (inl refl)) tt)
+  name-holds : (q : ℕ) (negated : Bool) (role : Role) → P (nameAt s q negated role)
+  unfolding nameAt endedName
+  name-holds q negated role =
+      tested (startsName (byteAt s q)) _ _ (inr (inl refl))
+      (tested (leb (nameRun (drop q s)) 24) _ _ (inr (inr refl))
+      (tested (mayFollow role (byteAt s (q + nameRun (drop q s)))) _ _ (inr (inl refl)) (literals _)))
 
-name-gives : (s : List ℕ) (q : ℕ) (negated : Bool) (role : Role) → GivesOnly (nameAt s q negated role)
-unfolding nameAt
-name-gives s q negated role =
-    demanding-gives (startsName (byteAt s q)) _ _ (inr (inl refl)) (ended-gives s q (nameRun (drop q s)) negated role)
+  literal-holds : (p : ℕ) (role : Role) → P (literalAt s p role)
+  unfolding literalAt
+  literal-holds p role = either (isMinus (byteAt s p)) _ _ (name-holds (p + 1) true role) (name-holds p false role)
 
-literal-gives : (s : List ℕ) (p : ℕ) (role : Role) → GivesOnly (literalAt s p role)
-unfolding literalAt
-literal-gives s p role = cond-gives (isMinus (byteAt s p)) _ _ (name-gives s (p + 1) true role) (name-gives s p false role)
+  line-holds : (p : ℕ) → (p ≡ length s → P End) → P (lineAt s p)
+  unfolding lineAt
+  line-holds p end = by (eqb p (length s)) refl
+    where
+      by : (b : Bool) → eqb p (length s) ≡ b → P (cond b End (literalAt s p Head))
+      by true q = end (eqb-true p (length s) q)
+      by false q = literal-holds p Head
 
-line-gives : (s : List ℕ) (p : ℕ) → GivesOnly (lineAt s p)
-unfolding lineAt
-line-gives s p = cond-gives (eqb p (length s)) _ _ tt (literal-gives s p Head)
+  reading-holds : (p : ℕ) → (p ≡ length s → P End) → P (readingAt s p)
+  unfolding readingAt readingAfter
+  reading-holds p end =
+      tested (leb (length s) 65536) _ _ (inl refl)
+      (tested (leb p (length s)) _ _ (inr (inl refl))
+      (either (isLineEnd (byteBefore s p)) _ _ (line-holds p end)
+      (either (isTab (byteBefore s p)) _ _ (literal-holds p First)
+      (either (isSpace (byteBefore s p)) _ _ (literal-holds p Further) (refusals _ (inr (inl refl)))))))
 
 pub gives-only-8-10-11 : (s : List ℕ) (p : ℕ) → GivesOnly (readingAt s p)
-unfolding readingAt readingAfter
-gives-only-8-10-11 s p =
-    demanding-gives (leb (length s) 65536) _ _ (inl refl)
-    (demanding-gives (leb p (length s)) _ _ (inr (inl refl))
-    (cond-gives (isLineEnd (byteBefore s p)) _ _ (line-gives s p)
-    (cond-gives (isTab (byteBefore s p)) _ _ (literal-gives s p First)
-    (cond-gives (isSpace (byteBefore s p)) _ _ (literal-gives s p Further) (inr (inl refl))))))
+gives-only-8-10-11 s p = reading-holds GivesOnly (λ r h. h) (λ l. tt) s p (λ e. tt)
+
+refused-is-no-end : (r : Refusal) → Refused r ≡ End → ⊥
+refused-is-no-end r e = let z : _≡_ {A = ℕ} 0 1 = cc in omega arith
+
+-- the reader says that it has ended only where the sheet does
+pub ends-at-the-end : (s : List ℕ) (p : ℕ) → readingAt s p ≡ End → p ≡ length s
+ends-at-the-end s p =
+    reading-holds (λ r. r ≡ End → p ≡ length s)
+    (λ r h e. absurd (refused-is-no-end r e)) (λ l e. absurd (end-is-no-literal l (sym e))) s p (λ e e′. e)
 
 stays : (r : Reading) (p : ℕ) → NoLiteral r → placeAfter r p ≡ p
 unfolding placeAfter
@@ -212,7 +230,13 @@ same-again s p x y e e′ h =
     e′ ∙ ap (λ (z : Next). nextAt s (z .place)) e
     ∙ ap (nextAt s) (stays (readingAt s p) p (subst NoLiteral (ap (λ (z : Next). z .reading) e) h)) ∙ sym e
 
-reached-stays : (s : List ℕ) (n p : ℕ) → NoLiteral (readingAt s p) → reached s p n ≡ p
+-- readings after readings
+pub reached-on : (s : List ℕ) (n m p : ℕ) → reached s p (n + m) ≡ reached s (reached s p n) m
+reached-on s zero m p = let none : 0 + m ≡ m = omega arith in ap (reached s p) none
+reached-on s (suc n) m p =
+    let more : suc n + m ≡ suc (n + m) = omega arith in ap (reached s p) more ∙ reached-on s n m (nextAt s p .place)
+
+pub reached-stays : (s : List ℕ) (n p : ℕ) → NoLiteral (readingAt s p) → reached s p n ≡ p
 unfolding nextAt
 reached-stays s zero p h = refl
 reached-stays s (suc n) p h = ap (λ (q : ℕ). reached s q n) (stays (readingAt s p) p h) ∙ reached-stays s n p h

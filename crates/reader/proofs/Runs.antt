@@ -36,6 +36,20 @@ run-stops s i e = by (ltb i (length s)) refl
         ap nameRun (drop-cons s i 0 (ltb-true i (length s) q)) ∙ ap (λ (b : Bool). cond b (suc (nameRun (drop (suc i) s))) 0) e
     by false q = ap nameRun (drop-of-length-le s (ltb-false i (length s) q))
 
+run-front : (s : List ℕ) (q : ℕ) → 0 < nameRun (drop q s) → continuesName (byteAt s q) ≡ true
+run-front s q h = by (continuesName (byteAt s q)) refl
+  where
+    by : (b : Bool) → continuesName (byteAt s q) ≡ b → continuesName (byteAt s q) ≡ true
+    by true e = e
+    by false e = absurd (omega (arith, run-stops s q e))
+
+-- every byte of a run continues a name
+pub run-bytes : (s : List ℕ) (q i : ℕ) → i < nameRun (drop q s) → continuesName (byteAt s (q + i)) ≡ true
+run-bytes s q zero h = let here : q + 0 ≡ q = omega arith in ap (λ (x : ℕ). continuesName (byteAt s x)) here ∙ run-front s q h
+run-bytes s q (suc i) h =
+    let there : q + suc i ≡ suc q + i = omega arith in
+    ap (λ (x : ℕ). continuesName (byteAt s x)) there ∙ run-bytes s (suc q) i (omega (arith, run-on s q (run-front s q (omega arith))))
+
 -- one turn of the loop: a byte more
 pub run-more : (s : List ℕ) (q n : ℕ) (test : Bool) → (n + nameRun (drop (q + n) s) ≡ nameRun (drop q s))
     → test ≡ continuesName (byteAt s (q + n)) → test ≡ true

@@ -1,7 +1,6 @@
 -- The sheet entry, from what its parts ensure.
-use mathlib.Core.Path.{_≡_, refl, sym, ap, ap₂, _∙_, subst, subst₂, fun-ext}
+use mathlib.Core.Path.{_≡_, refl, sym, ap, ap₂, _∙_, subst, subst₂}
 use mathlib.Core.List.{List, []}
-use mathlib.Core.Bool.{Bool}
 use Prim.Native.Nat.{ℕ, _≤_}
 use native.Mathlib.Nat.{zero-add}
 use native.Mathlib.Omega.{arith}
@@ -10,7 +9,6 @@ use Rattle.refusal.specs.declared.Refusal.{Refusal}
 use Rattle.paper.specs.Table1.{code}
 use Rattle.paper.specs.Rules.{Rule, positive}
 use Rattle.paper.specs.Definitions.{value, Smallest}
-use Rattle.bits.specs.Sets.{member}
 use Rattle.refusal.specs.declared.Checked.the-variants.{Accepted}
 use Rattle.words.specs.Layout.{wordsOf, rulesOf}
 use Rattle.refusal.proofs.Laws.{refused≢accepted}
@@ -19,7 +17,7 @@ use Rattle.evaluation.specs.Evaluation.{evaluationFault, EvaluationAllows}
 use Rattle.evaluation.proofs.Laws.{refused-is, evaluated-is}
 use Rattle.sheetwords.specs.declared.Filled.{Filled}
 use Rattle.sheetwords.specs.declared.Filled.the-variants.{Read, Refused as NotRead}
-use Rattle.literals.specs.Literals.{Sofar, isHead}
+use Rattle.literals.specs.Literals.{Sofar}
 use Rattle.sheetwords.specs.Sheets.{Outcome, accepted, refused, sheetOutcome}
 use Rattle.buffers.specs.Padded.{padded}
 use Rattle.sheetwords.specs.Filling.{ReadInto}
@@ -44,7 +42,7 @@ allows s wordRoom nameRoom text {a} {a′} {u} {u′} {m} {m′} {t} {t′} e f 
     (subst (λ (y : List ℕ). SheetAllows s wordRoom nameRoom text a′ y m t) f
     (subst (λ (y : SheetAnswer). SheetAllows s wordRoom nameRoom text y u m t) e r)))
 
-module _ (s : List ℕ) (wordRoom nameRoom n w : ℕ) (ws ns heads : List ℕ) (held : Holding s wordRoom nameRoom n w ws ns heads) where
+module _ (s : List ℕ) (wordRoom nameRoom n w : ℕ) (ws ns : List ℕ) (held : Holding s wordRoom nameRoom n w ws ns) where
   pub few-atoms : n ≤ 512
   few-atoms = omega (arith, held .atoms, sheet-within s wordRoom nameRoom (held .sofar) (held .is) .at-most-512)
 
@@ -55,22 +53,22 @@ module _ (s : List ℕ) (wordRoom nameRoom n w : ℕ) (ws ns heads : List ℕ) (
   words-inside = omega (arith, held .filled, in-buffer wordRoom (wordsOf (held .sofar .rules)) ws (held .words-are))
 
   names-taken : take n ns ≡ held .sofar .names
-  names-taken = ap₂ (λ (x : ℕ) (t : List ℕ). take x t) (held .atoms) (held .names-are) ∙ in-front nameRoom (held .sofar .names)
+  names-taken = in-front n nameRoom (held .sofar .names) ns (held .atoms) (held .names-are)
 
   words-taken : take w ws ≡ wordsOf (held .sofar .rules)
-  words-taken = ap₂ (λ (x : ℕ) (t : List ℕ). take x t) (held .filled) (held .words-are) ∙ in-front wordRoom (wordsOf (held .sofar .rules))
+  words-taken = in-front w wordRoom (wordsOf (held .sofar .rules)) ws (held .filled) (held .words-are)
 
   -- the bytes printed are the value sheet
   sheet-printed : (values : List ℕ) (v : Valued s wordRoom nameRoom n values)
-      → valueSheet s (member heads) (λ a. getD values a 0) (take n ns) ≡ sheetOf s (held .sofar) (v .model)
+      → valueSheet s (λ a. getD values a 0) (take n ns) ≡ sheetOf s (held .sofar) (v .model)
   sheet-printed values v =
-      ap₂ (λ (h : ℕ → Bool) (es : List ℕ). linesFrom s h (λ a. getD values a 0) 0 es) (fun-ext (held .heads-are)) names-taken
-      ∙ same-lines s (isHead (held .sofar .rules)) (λ a. getD values a 0) (λ a. code (value (v .model) (positive a))) 0 (held .sofar .names)
+      ap (linesFrom s (λ a. getD values a 0) 0) names-taken
+      ∙ same-lines s (λ a. getD values a 0) (λ a. code (value (v .model) (positive a))) 0 (held .sofar .names)
       (λ b h. v .codes b (omega (arith, held .atoms, zero-add (length (held .sofar .names)))))
 
   module _ (values : List ℕ) (v : Valued s wordRoom nameRoom n values) (text text′ : List ℕ) (p : Printed)
-      (answer : p ≡ printing (valueSheet s (member heads) (λ a. getD values a 0) (take n ns)) (length text))
-      (after : text′ ≡ textAfter (valueSheet s (member heads) (λ a. getD values a 0) (take n ns)) text) where
+      (answer : p ≡ printing (valueSheet s (λ a. getD values a 0) (take n ns)) (length text))
+      (after : text′ ≡ textAfter (valueSheet s (λ a. getD values a 0) (take n ns)) text) where
     whole-answer : p ≡ printing (sheetOf s (held .sofar) (v .model)) (length text)
     whole-answer = answer ∙ ap (λ (out : List ℕ). printing out (length text)) (sheet-printed values v)
 
@@ -126,9 +124,9 @@ module _ (s : List ℕ) (wordRoom nameRoom n w : ℕ) (ws ns heads : List ℕ) (
 read-is-not-refused : (n w : ℕ) (x : Refusal) → Read n w ≡ NotRead x → ⊥
 read-is-not-refused n w x e = let z : _≡_ {A = ℕ} 0 1 = cc in omega arith
 
-held-by : (s : List ℕ) (wordRoom nameRoom n w : ℕ) (ws ns heads : List ℕ) (o : Outcome) → sheetOutcome s wordRoom nameRoom ≡ o
-    → ReadInto o wordRoom nameRoom (Read n w) ws ns heads → Holding s wordRoom nameRoom n w ws ns heads
-held-by s wordRoom nameRoom n w ws ns heads (accepted x) e into =
+held-by : (s : List ℕ) (wordRoom nameRoom n w : ℕ) (ws ns : List ℕ) (o : Outcome) → sheetOutcome s wordRoom nameRoom ≡ o
+    → ReadInto o wordRoom nameRoom (Read n w) ws ns → Holding s wordRoom nameRoom n w ws ns
+held-by s wordRoom nameRoom n w ws ns (accepted x) e into =
     let atoms : n ≡ length (x .names) = cc (into .answer) in
     let filled : w ≡ length (wordsOf (x .rules)) = cc (into .answer) in
     record {
@@ -136,35 +134,34 @@ held-by s wordRoom nameRoom n w ws ns heads (accepted x) e into =
       is = e;
       words-are = into .words-are;
       names-are = into .names-are;
-      heads-are = into .heads-are x refl .are;
       atoms = atoms;
       filled = filled;
     }
-held-by s wordRoom nameRoom n w ws ns heads (refused r) e into = absurd (read-is-not-refused n w r (into .answer))
+held-by s wordRoom nameRoom n w ws ns (refused r) e into = absurd (read-is-not-refused n w r (into .answer))
 
-refused-by : (s : List ℕ) (wordRoom nameRoom : ℕ) (r : Refusal) (text ws ns heads : List ℕ) (o : Outcome) → sheetOutcome s wordRoom nameRoom ≡ o
-    → ReadInto o wordRoom nameRoom (NotRead r) ws ns heads → SheetAllows s wordRoom nameRoom text (SheetAnswer.Refused r) ws ns text
-refused-by s wordRoom nameRoom r text ws ns heads (accepted x) e into = absurd (read-is-not-refused _ _ r (sym (into .answer)))
-refused-by s wordRoom nameRoom r text ws ns heads (refused f) e into =
+refused-by : (s : List ℕ) (wordRoom nameRoom : ℕ) (r : Refusal) (text ws ns : List ℕ) (o : Outcome) → sheetOutcome s wordRoom nameRoom ≡ o
+    → ReadInto o wordRoom nameRoom (NotRead r) ws ns → SheetAllows s wordRoom nameRoom text (SheetAnswer.Refused r) ws ns text
+refused-by s wordRoom nameRoom r text ws ns (accepted x) e into = absurd (read-is-not-refused _ _ r (sym (into .answer)))
+refused-by s wordRoom nameRoom r text ws ns (refused f) e into =
     let same : f ≡ r = cc (into .answer) in
     allows s wordRoom nameRoom text (ap SheetAnswer.Refused same) (sym (into .words-are)) (sym (into .names-are)) refl (SheetAllows.refused {f = f} e)
 
 -- what the entry's turns need of reading
-module _ (s : List ℕ) (wordRoom nameRoom : ℕ) (filled : Filled) (ws ns heads : List ℕ)
-    (into : ReadInto (sheetOutcome s wordRoom nameRoom) wordRoom nameRoom filled ws ns heads) where
-  pub holds : (n w : ℕ) → filled ≡ Read n w → Holding s wordRoom nameRoom n w ws ns heads
+module _ (s : List ℕ) (wordRoom nameRoom : ℕ) (filled : Filled) (ws ns : List ℕ)
+    (into : ReadInto (sheetOutcome s wordRoom nameRoom) wordRoom nameRoom filled ws ns) where
+  pub holds : (n w : ℕ) → filled ≡ Read n w → Holding s wordRoom nameRoom n w ws ns
   holds n w e =
-      held-by s wordRoom nameRoom n w ws ns heads (sheetOutcome s wordRoom nameRoom) refl
-      (subst (λ (f : Filled). ReadInto (sheetOutcome s wordRoom nameRoom) wordRoom nameRoom f ws ns heads) e into)
+      held-by s wordRoom nameRoom n w ws ns (sheetOutcome s wordRoom nameRoom) refl
+      (subst (λ (f : Filled). ReadInto (sheetOutcome s wordRoom nameRoom) wordRoom nameRoom f ws ns) e into)
 
   pub refuses : (r : Refusal) (text : List ℕ) → filled ≡ NotRead r → SheetAllows s wordRoom nameRoom text (SheetAnswer.Refused r) ws ns text
   refuses r text e =
-      refused-by s wordRoom nameRoom r text ws ns heads (sheetOutcome s wordRoom nameRoom) refl
-      (subst (λ (f : Filled). ReadInto (sheetOutcome s wordRoom nameRoom) wordRoom nameRoom f ws ns heads) e into)
+      refused-by s wordRoom nameRoom r text ws ns (sheetOutcome s wordRoom nameRoom) refl
+      (subst (λ (f : Filled). ReadInto (sheetOutcome s wordRoom nameRoom) wordRoom nameRoom f ws ns) e into)
 
   pub holds-there : (n w : ℕ) → filled ≡ Read n w → length ws ≡ wordRoom
-      → length ns ≡ nameRoom → Holding s (length ws) (length ns) n w ws ns heads
-  holds-there n w e h h′ = subst₂ (λ (x y : ℕ). Holding s x y n w ws ns heads) (sym h) (sym h′) (holds n w e)
+      → length ns ≡ nameRoom → Holding s (length ws) (length ns) n w ws ns
+  holds-there n w e h h′ = subst₂ (λ (x y : ℕ). Holding s x y n w ws ns) (sym h) (sym h′) (holds n w e)
 
 -- the buffers have kept their lengths
 pub allows-there : (s : List ℕ) (x x′ y y′ : ℕ) (text : List ℕ) (a : SheetAnswer) (ws ns text′ : List ℕ) → x ≡ x′ → y ≡ y′

@@ -1,11 +1,10 @@
 -- Two outcomes that the sheet entry allows are equal, and what an accepted sheet leaves.
 use mathlib.Core.Path.{_≡_, refl, sym, ap, ap₂, _∙_, subst, subst₂}
 use mathlib.Core.List.{List, _++_}
-use Prim.Native.Nat.{ℕ, _-_, _≤_}
+use Prim.Native.Nat.{ℕ, _≤_}
 use native.Mathlib.Nat.{le-refl}
 use native.Mathlib.Omega.{arith}
-use lib.ListN.{length, take, drop, replicate, length-append}
-use lib.Seq.{take-append-seam}
+use lib.ListN.{length, take, drop, length-append}
 use Rattle.refusal.specs.Numbers.{text-room-too-small}
 use Rattle.paper.specs.Rules.{Rule, OneRulePerHead}
 use Rattle.paper.specs.Definitions.{Interpretation, Smallest}
@@ -16,6 +15,7 @@ use Rattle.words.specs.Layout.{wordsOf, rulesOf}
 use Rattle.words.proofs.Laws.{accepted-one-rule}
 use Rattle.evaluation.proofs.Laws.{always-settles}
 use Rattle.literals.specs.Literals.{Sofar}
+use Rattle.literals.proofs.Growth.{in-front}
 use Rattle.sheetwords.specs.Sheets.{accepted, refused, sheetOutcome}
 use Rattle.buffers.specs.Padded.{padded}
 use Rattle.sheetwords.proofs.Turns.{accepted-is-not-refused, accepted-once}
@@ -82,34 +82,58 @@ module _ (s : List ℕ) (wordRoom nameRoom : ℕ) (text : List ℕ) where
         ap₂ (λ (z : Sofar) (K : Interpretation). sheetOf s z K ++ drop (length (sheetOf s z K)) text) (same .0) (same .1),
       )
 
--- an accepted sheet's value sheet lies within the text room
-pub accepted-fits : (s : List ℕ) (wordRoom nameRoom : ℕ) (text : List ℕ) {a : SheetAnswer} {ws ns text′ : List ℕ}
-    → SheetAllows s wordRoom nameRoom text a ws ns text′
-    → (c : SheetCounts) → a ≡ SheetAnswer.Accepted c → c .bytes ≤ length text′
-accepted-fits s wordRoom nameRoom text (SheetAllows.refused e) c same = absurd (let z : _≡_ {A = ℕ} 0 1 = cc in omega arith)
-accepted-fits s wordRoom nameRoom text (SheetAllows.never-settles e A m n) c same = absurd (let z : _≡_ {A = ℕ} 0 1 = cc in omega arith)
-accepted-fits s wordRoom nameRoom text (SheetAllows.does-not-fit e i h) c same = absurd (let z : _≡_ {A = ℕ} 0 1 = cc in omega arith)
-accepted-fits s wordRoom nameRoom text (SheetAllows.accepted {x} {I} e i h) c same =
-    let v = sheetOf s x I in
-    let is : length v ≡ c .bytes = cc in
-    omega (arith, is, length-append v (drop (length v) text))
+-- what an accepted sheet leaves: its counts, its words and names, and its value sheet at the front of the text
+pub record Leaves (s : List ℕ) (wordRoom nameRoom : ℕ) (c : SheetCounts) (ws ns text : List ℕ) : Type 0 where
+  pub sofar : Sofar
+  pub model : Interpretation
+  pub read : sheetOutcome s wordRoom nameRoom ≡ accepted sofar
+  pub smallest : Smallest (sofar .rules) model
+  pub atoms : length (sofar .names) ≡ c .atoms
+  pub words : length (wordsOf (sofar .rules)) ≡ c .words
+  pub bytes : length (sheetOf s sofar model) ≡ c .bytes
+  pub words-are : ws ≡ padded wordRoom (wordsOf (sofar .rules))
+  pub names-are : ns ≡ padded nameRoom (sofar .names)
+  pub rest : List ℕ
+  pub text-is : text ≡ sheetOf s sofar model ++ rest
 
--- the words that an accepted sheet leaves are an accepted table for the N that it answers, with the sheet's rules
-pub leaves-a-table : (s : List ℕ) (wordRoom nameRoom : ℕ) (text : List ℕ) {a : SheetAnswer} {ws ns text′ : List ℕ}
+pub accepted-leaves : (s : List ℕ) (wordRoom nameRoom : ℕ) (text : List ℕ) {a : SheetAnswer} {ws ns text′ : List ℕ}
     → SheetAllows s wordRoom nameRoom text a ws ns text′
-    → (c : SheetCounts) → a ≡ SheetAnswer.Accepted c → (y : Sofar) → sheetOutcome s wordRoom nameRoom ≡ accepted y
-    → AcceptedTable (c .atoms) (take (c .words) ws) × (rulesOf (take (c .words) ws) ≡ y .rules)
-unfolding padded
-leaves-a-table s wordRoom nameRoom text (SheetAllows.refused e) c same y f = absurd (let z : _≡_ {A = ℕ} 0 1 = cc in omega arith)
-leaves-a-table s wordRoom nameRoom text (SheetAllows.never-settles e A m n) c same y f = absurd (let z : _≡_ {A = ℕ} 0 1 = cc in omega arith)
-leaves-a-table s wordRoom nameRoom text (SheetAllows.does-not-fit e i h) c same y f = absurd (let z : _≡_ {A = ℕ} 0 1 = cc in omega arith)
-leaves-a-table s wordRoom nameRoom text (SheetAllows.accepted {x} {I} e i h) c same y f =
-    let words = wordsOf (x .rules) in
+    → (c : SheetCounts) → a ≡ SheetAnswer.Accepted c → Leaves s wordRoom nameRoom c ws ns text′
+accepted-leaves s wordRoom nameRoom text (SheetAllows.refused e) c same = absurd (let z : _≡_ {A = ℕ} 0 1 = cc in omega arith)
+accepted-leaves s wordRoom nameRoom text (SheetAllows.never-settles e A m n) c same = absurd (let z : _≡_ {A = ℕ} 0 1 = cc in omega arith)
+accepted-leaves s wordRoom nameRoom text (SheetAllows.does-not-fit e i h) c same = absurd (let z : _≡_ {A = ℕ} 0 1 = cc in omega arith)
+accepted-leaves s wordRoom nameRoom text (SheetAllows.accepted {x} {I} e i h) c same =
     let atoms : length (x .names) ≡ c .atoms = cc in
-    let filled : length words ≡ c .words = cc in
-    let front : take (c .words) (words ++ replicate (wordRoom - length words) 0) ≡ words =
-    ap (λ (n : ℕ). take n (words ++ replicate (wordRoom - length words) 0)) (sym filled) ∙ take-append-seam words (replicate (wordRoom - length words) 0)
-    in (
-      subst₂ (λ (n : ℕ) (t : List ℕ). AcceptedTable n t) atoms (sym front) (sheet-table-accepted s wordRoom nameRoom x e),
-      ap rulesOf front ∙ sheet-table-rules x ∙ ap (λ (z : Sofar). z .rules) (accepted-once x y (sym e ∙ f)),
-    )
+    let words : length (wordsOf (x .rules)) ≡ c .words = cc in
+    let bytes : length (sheetOf s x I) ≡ c .bytes = cc in
+    record {
+      sofar = x;
+      model = I;
+      read = e;
+      smallest = i;
+      atoms = atoms;
+      words = words;
+      bytes = bytes;
+      words-are = refl;
+      names-are = refl;
+      rest = drop (length (sheetOf s x I)) text;
+      text-is = refl;
+    }
+
+module _ (s : List ℕ) (wordRoom nameRoom : ℕ) (c : SheetCounts) (ws ns text : List ℕ) (left : Leaves s wordRoom nameRoom c ws ns text) where
+  -- the value sheet lies within the text room
+  pub accepted-fits : c .bytes ≤ length text
+  accepted-fits = omega (arith, left .bytes, ap length (left .text-is), length-append (sheetOf s (left .sofar) (left .model)) (left .rest))
+
+  words-left : take (c .words) ws ≡ wordsOf (left .sofar .rules)
+  words-left = in-front (c .words) wordRoom (wordsOf (left .sofar .rules)) ws (sym (left .words)) (left .words-are)
+
+  -- the words are an accepted table for the N answered, with the sheet's rules
+  pub leaves-a-table : (x : Sofar) → sheetOutcome s wordRoom nameRoom ≡ accepted x
+      → AcceptedTable (c .atoms) (take (c .words) ws) × (rulesOf (take (c .words) ws) ≡ x .rules)
+  leaves-a-table x read = (
+    subst₂ (λ (n : ℕ) (t : List ℕ). AcceptedTable n t) (left .atoms) (sym words-left)
+        (sheet-table-accepted s wordRoom nameRoom (left .sofar) (left .read)),
+    ap rulesOf words-left ∙ sheet-table-rules (left .sofar)
+        ∙ ap (λ (y : Sofar). y .rules) (accepted-once (left .sofar) x (sym (left .read) ∙ read)),
+  )

@@ -2,3 +2,4 @@
 pub mod Values
 pub mod Entry
 pub mod Laws
+pub mod Lines

@@ -21,17 +21,16 @@ use Rattle.evaluation.specs.Evaluation.{evaluationFault}
 use Rattle.buffers.specs.Padded.{padded}
 use Rattle.valuesheet.specs.declared.Printed.{Printed}
 use Rattle.valuesheet.specs.declared.Printed.the-variants.{Whole, Refused as DoesNotFit}
-use Rattle.valuesheet.specs.ValueSheet.{hasLine, lineIf, linesFrom}
+use Rattle.valuesheet.specs.ValueSheet.{lineFor, linesFrom}
 use Rattle.valuesheet.specs.Fitting.{printing, textAfter}
 
 -- the lines go by the values of their own atoms
-pub same-lines : (s : List ℕ) (heads : ℕ → Bool) (v v′ : ℕ → ℕ) (a : ℕ) (es : List ℕ) → ((b : ℕ) → b < a + length es → v b ≡ v′ b)
-    → linesFrom s heads v a es ≡ linesFrom s heads v′ a es
+pub same-lines : (s : List ℕ) (v v′ : ℕ → ℕ) (a : ℕ) (es : List ℕ) → ((b : ℕ) → b < a + length es → v b ≡ v′ b)
+    → linesFrom s v a es ≡ linesFrom s v′ a es
 unfolding linesFrom
-same-lines s heads v v′ a [] e = refl
-same-lines s heads v v′ a (x ∷ es) e =
-    ap₂ (λ (y : ℕ) (t : List ℕ). lineIf (hasLine heads a) s x y ++ t)
-    (e a (omega arith)) (same-lines s heads v v′ (suc a) es (λ b h. e b (omega arith)))
+same-lines s v v′ a [] e = refl
+same-lines s v v′ a (x ∷ es) e =
+    ap₂ (λ (y : ℕ) (t : List ℕ). lineFor s x y ++ t) (e a (omega arith)) (same-lines s v v′ (suc a) es (λ b h. e b (omega arith)))
 
 code-at : (v : ℕ → Value) (a n b : ℕ) → b < n → getD (codesFrom v a n) b 0 ≡ code (v (a + b))
 unfolding codesFrom

@@ -6,20 +6,18 @@ use lib.ListN.{length, getD}
 use Rattle.paper.specs.Table1.{code}
 use Rattle.paper.specs.Rules.{positive}
 use Rattle.paper.specs.Definitions.{Interpretation, value, Smallest}
-use Rattle.bits.specs.Sets.{member}
 use Rattle.words.specs.Layout.{wordsOf}
-use Rattle.literals.specs.Literals.{Sofar, isHead}
+use Rattle.literals.specs.Literals.{Sofar}
 use Rattle.sheetwords.specs.Sheets.{sheetOutcome}
 use Rattle.sheetwords.specs.Sheets as sheet
 use Rattle.buffers.specs.Padded.{padded}
 
--- the buffers hold an accepted sheet of n atoms and w words, and its heads
-pub record Holding (s : List ℕ) (wordRoom nameRoom n w : ℕ) (ws ns heads : List ℕ) : Type 0 where
+-- the buffers hold an accepted sheet of n atoms and w words
+pub record Holding (s : List ℕ) (wordRoom nameRoom n w : ℕ) (ws ns : List ℕ) : Type 0 where
   pub sofar : Sofar
   pub is : sheetOutcome s wordRoom nameRoom ≡ sheet.accepted sofar
   pub words-are : ws ≡ padded wordRoom (wordsOf (sofar .rules))
   pub names-are : ns ≡ padded nameRoom (sofar .names)
-  pub heads-are : (j : ℕ) → member heads j ≡ isHead (sofar .rules) j
   pub atoms : n ≡ length (sofar .names)
   pub filled : w ≡ length (wordsOf (sofar .rules))
 

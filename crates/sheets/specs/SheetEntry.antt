@@ -10,7 +10,7 @@ use Rattle.paper.specs.Rules.{positive}
 use Rattle.paper.specs.Definitions.{Interpretation, value, Smallest}
 use Rattle.paper.specs.Marking.{Marks, Marking, Settled}
 use Rattle.words.specs.Layout.{wordsOf}
-use Rattle.literals.specs.Literals.{Sofar, isHead}
+use Rattle.literals.specs.Literals.{Sofar}
 use Rattle.sheetwords.specs.Sheets.{sheetOutcome}
 use Rattle.sheetwords.specs.Sheets as sheet
 use Rattle.buffers.specs.Padded.{padded}
@@ -19,7 +19,7 @@ use Rattle.sheets.specs.declared.SheetAnswer.{SheetAnswer}
 
 -- the value sheet of what a sheet has given, by a model
 abbrev pub sheetOf : List ℕ → Sofar → Interpretation → List ℕ
-sheetOf s x I = valueSheet s (isHead (x .rules)) (λ a. code (value I (positive a))) (x .names)
+sheetOf s x I = valueSheet s (λ a. code (value I (positive a))) (x .names)
 
 -- N, the words filled and the value sheet's length
 abbrev pub counts : List ℕ → Sofar → Interpretation → SheetAnswer

@@ -23,17 +23,16 @@ fn print_or_clear(
     sheet: &[u8],
     words: &mut [u16],
     names: &mut [u32],
-    heads: &[u64],
     n: usize,
     w: usize,
     values: &[u8],
     text: &mut [u8],
 ) -> SheetAnswer
-    requires { ⌜ Holding (now sheet) (length (now words)) (length (now names)) n w (now words) (now names) (now heads) ⌝ }
+    requires { ⌜ Holding (now sheet) (length (now words)) (length (now names)) n w (now words) (now names) ⌝ }
     requires { ⌜ Valued (now sheet) (length (now words)) (length (now names)) n (now values) ⌝ }
     ensures { λ r. ⌜ SheetAllows (now (sheet .entry)) (length (now (words .entry))) (length (now (names .entry))) (now (text .entry)) r (now (words .exit)) (now (names .exit)) (now (text .exit)) ⌝ }
 {
-    let printed = valuesheet::print(sheet, names, n, heads, values, text);
+    let printed = valuesheet::print(sheet, names, n, values, text);
     match printed {
         Printed::Whole(bytes) => SheetAnswer::Accepted(SheetCounts {
             atoms: n,
@@ -53,18 +52,17 @@ fn value_and_print(
     sheet: &[u8],
     words: &mut [u16],
     names: &mut [u32],
-    heads: &[u64],
     n: usize,
     w: usize,
     text: &mut [u8],
 ) -> SheetAnswer
-    requires { ⌜ Holding (now sheet) (length (now words)) (length (now names)) n w (now words) (now names) (now heads) ⌝ }
+    requires { ⌜ Holding (now sheet) (length (now words)) (length (now names)) n w (now words) (now names) ⌝ }
     ensures { λ r. ⌜ SheetAllows (now (sheet .entry)) (length (now (words .entry))) (length (now (names .entry))) (now (text .entry)) r (now (words .exit)) (now (names .exit)) (now (text .exit)) ⌝ }
 {
     let mut values = [0u8; limits::MOST_ATOMS];
     let answer = evaluation::evaluate(n as u64, &words[..w], &mut values);
     match answer {
-        Checked::Accepted => print_or_clear(sheet, words, names, heads, n, w, &values, text),
+        Checked::Accepted => print_or_clear(sheet, words, names, n, w, &values, text),
         Checked::Refused(r) => {
             buffers::clear_words(words);
             buffers::clear_names(names);
@@ -82,10 +80,9 @@ pub fn read_sheet(
 ) -> SheetAnswer
     ensures { λ r. ⌜ SheetAllows (now (sheet .entry)) (length (now (words .entry))) (length (now (names .entry))) (now (text .entry)) r (now (words .exit)) (now (names .exit)) (now (text .exit)) ⌝ }
 {
-    let mut heads = [0u64; 16];
-    let filled = sheetwords::read_words(sheet, words, names, &mut heads);
+    let filled = sheetwords::read_words(sheet, words, names);
     match filled {
-        Filled::Read(n, w) => value_and_print(sheet, words, names, &heads, n, w, text),
+        Filled::Read(n, w) => value_and_print(sheet, words, names, n, w, text),
         Filled::Refused(r) => SheetAnswer::Refused(r),
     }
 }

@@ -131,7 +131,7 @@ module _
       }
 
   names-taken : take (k .atoms) ns ≡ sofar .names
-  names-taken = ap₂ (λ (n : ℕ) (t : List ℕ). take n t) (kept .atoms) (kept .in-names) ∙ in-front (length ns) (sofar .names)
+  names-taken = in-front (k .atoms) (length ns) (sofar .names) ns (kept .atoms) (kept .in-names)
 
   -- the fault that the buffers give is document 01's
   pub faults-agree : (s : List ℕ) (p : ℕ) → faultIn s k ws ns heads p l ≡ literalFault s p sofar l

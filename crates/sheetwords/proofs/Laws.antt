@@ -199,7 +199,7 @@ unfolding after
 readies s p sofar l is ready role before =
     by-rules role _ _ (ready-next s p l (countsOf (sofar .rules)) (sofar .rules) 0 (codeOf s (sofar .names) l) is ready refl role before)
 
-unless-accepted : (f : Checked) (o : Outcome) (x : Sofar) → unless f o ≡ accepted x → (f ≡ Accepted) × (o ≡ accepted x)
+pub unless-accepted : (f : Checked) (o : Outcome) (x : Sofar) → unless f o ≡ accepted x → (f ≡ Accepted) × (o ≡ accepted x)
 unless-accepted Accepted o x e = (refl, e)
 unless-accepted (Refused r) o x e = absurd (accepted-is-not-refused x r (sym e))
 

@@ -1,3 +1,4 @@
 pub mod Filling
 pub mod Turns
 pub mod Laws
+pub mod Names

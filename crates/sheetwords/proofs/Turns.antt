@@ -7,7 +7,7 @@ use native.Mathlib.Omega.{arith}
 use lib.Dec.{leb}
 use borrow.Author.Tests.{le-leb, lt-leb}
 use Rattle.refusal.specs.Numbers.{sheet-too-long, buffer-too-small}
-use lib.ListN.{length, replicate}
+use lib.ListN.{length}
 use Rattle.refusal.specs.declared.Refusal.{Refusal}
 use Rattle.refusal.specs.declared.Checked.{Checked}
 use Rattle.refusal.specs.declared.Checked.the-variants.{Accepted, Refused}
@@ -28,7 +28,7 @@ use Rattle.sheetwords.specs.Sheets.{Outcome, accepted, refused, sheetFro
 use Rattle.refusal.specs.Checks.{demanding}
 use Rattle.buffers.specs.Padded.{padded}
 use Rattle.literals.specs.Putting.{faultIn, atomIn, codeIn, Put, Took}
-use Rattle.sheetwords.specs.Filling.{wordsLeft, namesLeft, filledBy, HeadsIn, FilledBy, ReadInto}
+use Rattle.sheetwords.specs.Filling.{wordsLeft, namesLeft, filledBy, FilledBy, ReadInto}
 use Rattle.sheetwords.proofs.Filling.{Filling, at-end, at-refusal, at-fault, at-literal}
 
 on-is-not-off : (k : Counts) (x : Refusal) → On k ≡ Off x → ⊥
@@ -58,7 +58,7 @@ name-fits s p next l e is =
 
 module _ (s : List ℕ) (whole : Outcome) (p : ℕ) (k : Counts) (ws ns heads : List ℕ)
     (inv : Filling s whole p k ws ns heads) (next : Next) (e : next ≡ nextAt s p) where
-  pub ends : next .reading ≡ End → FilledBy whole (Read (k .atoms) (k .words)) ws ns heads
+  pub ends : next .reading ≡ End → FilledBy whole (Read (k .atoms) (k .words)) ws ns
   ends is =
       let done = at-end s whole p k ws ns heads inv (read-is s p next End e is) in
       let same : (x : Sofar) → whole ≡ accepted x → inv .sofar ≡ x = λ x h. accepted-once (inv .sofar) x (sym done ∙ h) in
@@ -66,30 +66,28 @@ module _ (s : List ℕ) (whole : Outcome) (p : ℕ) (k : Counts) (ws ns heads : 
         answer = ap₂ Read (inv .kept .atoms) (inv .kept .words) ∙ ap filledBy (sym done);
         words-are = λ x h. subst (λ (y : Sofar). ws ≡ padded (length ws) (wordsOf (y .rules))) (same x h) (inv .kept .in-words);
         names-are = λ x h. subst (λ (y : Sofar). ns ≡ padded (length ns) (y .names)) (same x h) (inv .kept .in-names);
-        heads-are = λ x h. subst (λ (y : Sofar). HeadsIn heads (y .rules)) (same x h) (record { sixteen = inv .kept .heads-16; are = inv .kept .in-heads });
       }
 
-  pub nothing-filled : (x : Refusal) (ws′ ns′ heads′ : List ℕ) → whole ≡ refused x → FilledBy whole (NotRead x) ws′ ns′ heads′
-  nothing-filled x ws′ ns′ heads′ done = record {
+  pub nothing-filled : (x : Refusal) (ws′ ns′ : List ℕ) → whole ≡ refused x → FilledBy whole (NotRead x) ws′ ns′
+  nothing-filled x ws′ ns′ done = record {
     answer = ap filledBy (sym done);
     words-are = λ y h. absurd (accepted-is-not-refused y x (sym h ∙ done));
     names-are = λ y h. absurd (accepted-is-not-refused y x (sym h ∙ done));
-    heads-are = λ y h. absurd (accepted-is-not-refused y x (sym h ∙ done));
   }
 
-  pub stops : (x : Refusal) → next .reading ≡ ReadRefused x → FilledBy whole (NotRead x) ws ns heads
-  stops x is = nothing-filled x ws ns heads (at-refusal s whole p k ws ns heads inv x (read-is s p next (ReadRefused x) e is))
+  pub stops : (x : Refusal) → next .reading ≡ ReadRefused x → FilledBy whole (NotRead x) ws ns
+  stops x is = nothing-filled x ws ns (at-refusal s whole p k ws ns heads inv x (read-is s p next (ReadRefused x) e is))
 
   module _ (l : SheetLiteral) (is : next .reading ≡ Literal l) (r : Taken)
       (ws′ ns′ heads′ : List ℕ) (took : Took s p l k ws ns heads r ws′ ns′ heads′) where
-    pub faults : (x : Refusal) → r ≡ Off x → FilledBy whole (NotRead x) ws′ ns′ heads′
+    pub faults : (x : Refusal) → r ≡ Off x → FilledBy whole (NotRead x) ws′ ns′
     faults x off = by (faultIn s k ws ns heads p l) refl
       where
-        by : (f : Checked) → faultIn s k ws ns heads p l ≡ f → FilledBy whole (NotRead x) ws′ ns′ heads′
+        by : (f : Checked) → faultIn s k ws ns heads p l ≡ f → FilledBy whole (NotRead x) ws′ ns′
         by Accepted q = let on = took .faultless q in absurd (on-is-not-off (on .0) x (sym (on .1) ∙ off))
         by (Refused y) q =
             let same : Off y ≡ Off x = sym (took .faulty y q .0) ∙ off in
-            nothing-filled x ws′ ns′ heads′
+            nothing-filled x ws′ ns′
             (at-fault s whole p k ws ns heads inv l (read-is s p next (Literal l) e is) y q ∙ (let z : y ≡ x = cc in ap refused z))
 
     pub goes-on : (k′ : Counts) → r ≡ On k′ → Filling s whole (next .place) k′ ws′ ns′ heads′
@@ -113,72 +111,59 @@ read-is-not-refused : (n w : ℕ) (x : Refusal) → Read n w ≡ NotRead x → �
 read-is-not-refused n w x e = let z : _≡_ {A = ℕ} 0 1 = cc in omega arith
 
 -- filled, or empty where refused
-pub filled-stays : (o : Outcome) (r : Filled) (ws ns heads : List ℕ) (n w room room′ : ℕ) → FilledBy o r ws ns heads → r ≡ Read n w
-    → length ws ≡ room → length ns ≡ room′ → ReadInto o room room′ (Read n w) ws ns heads
-filled-stays (accepted sofar) r ws ns heads n w room room′ by e h h′ = record {
+pub filled-stays : (o : Outcome) (r : Filled) (ws ns : List ℕ) (n w room room′ : ℕ) → FilledBy o r ws ns → r ≡ Read n w
+    → length ws ≡ room → length ns ≡ room′ → ReadInto o room room′ (Read n w) ws ns
+filled-stays (accepted sofar) r ws ns n w room room′ by e h h′ = record {
   answer = sym e ∙ by .answer;
   words-are = by .words-are sofar refl ∙ ap (λ (x : ℕ). padded x (wordsOf (sofar .rules))) h;
   names-are = by .names-are sofar refl ∙ ap (λ (x : ℕ). padded x (sofar .names)) h′;
-  heads-are = by .heads-are;
-  heads-empty = λ x f. absurd (accepted-is-not-refused sofar x f);
 }
-filled-stays (refused x) r ws ns heads n w room room′ by e h h′ = absurd (read-is-not-refused n w x (sym e ∙ by .answer))
+filled-stays (refused x) r ws ns n w room room′ by e h h′ = absurd (read-is-not-refused n w x (sym e ∙ by .answer))
 
-pub nothing-stays : (o : Outcome) (r : Filled) (ws ns heads ws′ ns′ heads′ : List ℕ) (x : Refusal) (room room′ : ℕ)
-    → FilledBy o r ws ns heads → r ≡ NotRead x
-    → ws′ ≡ padded room [] → ns′ ≡ padded room′ [] → heads′ ≡ padded 16 [] → ReadInto o room room′ (NotRead x) ws′ ns′ heads′
-unfolding padded
-nothing-stays (accepted sofar) r ws ns heads ws′ ns′ heads′ x room room′ by e h h′ h″ = absurd (read-is-not-refused _ _ x (sym (by .answer) ∙ e))
-nothing-stays (refused y) r ws ns heads ws′ ns′ heads′ x room room′ by e h h′ h″ =
-    record {
-      answer = sym e ∙ by .answer;
-      words-are = h;
-      names-are = h′;
-      heads-are = λ z f. absurd (accepted-is-not-refused z y (sym f));
-      heads-empty = λ z f. h″;
-    }
+pub nothing-stays : (o : Outcome) (r : Filled) (ws ns ws′ ns′ : List ℕ) (x : Refusal) (room room′ : ℕ)
+    → FilledBy o r ws ns → r ≡ NotRead x
+    → ws′ ≡ padded room [] → ns′ ≡ padded room′ [] → ReadInto o room room′ (NotRead x) ws′ ns′
+nothing-stays (accepted sofar) r ws ns ws′ ns′ x room room′ by e h h′ = absurd (read-is-not-refused _ _ x (sym (by .answer) ∙ e))
+nothing-stays (refused y) r ws ns ws′ ns′ x room room′ by e h h′ = record { answer = sym e ∙ by .answer; words-are = h; names-are = h′ }
 
 -- 8 and 9
-refused-into : (x : Refusal) (room room′ : ℕ) (ws ns heads : List ℕ) (o : Outcome)
-    → o ≡ refused x → ws ≡ padded room [] → ns ≡ padded room′ []
-    → heads ≡ replicate 16 0 → ReadInto o room room′ (NotRead x) ws ns heads
-refused-into x room room′ ws ns heads o e h h′ h″ = record {
+refused-into : (x : Refusal) (room room′ : ℕ) (ws ns : List ℕ) (o : Outcome)
+    → o ≡ refused x → ws ≡ padded room [] → ns ≡ padded room′ [] → ReadInto o room room′ (NotRead x) ws ns
+refused-into x room room′ ws ns o e h h′ = record {
   answer = ap filledBy (sym e);
   words-are = h ∙ ap (λ (y : Outcome). padded room (wordsLeft y)) (sym e);
   names-are = h′ ∙ ap (λ (y : Outcome). padded room′ (namesLeft y)) (sym e);
-  heads-are = λ y f. absurd (accepted-is-not-refused y x (sym f ∙ e));
-  heads-empty = λ y f. h″;
 }
 
-module _ (s : List ℕ) (room room′ : ℕ) (ws ns heads : List ℕ) where
-  pub long-sheet : 65536 < length s → ws ≡ padded room [] → ns ≡ padded room′ [] → heads ≡ replicate 16 0
-      → ReadInto (sheetOutcome s room room′) room room′ (NotRead sheet-too-long) ws ns heads
+module _ (s : List ℕ) (room room′ : ℕ) (ws ns : List ℕ) where
+  pub long-sheet : 65536 < length s → ws ≡ padded room [] → ns ≡ padded room′ []
+      → ReadInto (sheetOutcome s room room′) room room′ (NotRead sheet-too-long) ws ns
   unfolding sheetOutcome
-  long-sheet h = refused-into sheet-too-long room room′ ws ns heads _
+  long-sheet h = refused-into sheet-too-long room room′ ws ns _
       (ap (λ (b : Bool). demanding refused b sheet-too-long
       (demanding refused (leb 8192 room && leb 512 room′) buffer-too-small (sheetFrom (length s + 1) s 0 nothing))) (lt-leb (length s) 65536 h))
 
   pub short-words : length s ≤ 65536 → room < 8192 → ws ≡ padded room [] → ns ≡ padded room′ []
-      → heads ≡ replicate 16 0 → ReadInto (sheetOutcome s room room′) room room′ (NotRead buffer-too-small) ws ns heads
+      → ReadInto (sheetOutcome s room room′) room room′ (NotRead buffer-too-small) ws ns
   unfolding sheetOutcome
-  short-words h h′ = refused-into buffer-too-small room room′ ws ns heads _
+  short-words h h′ = refused-into buffer-too-small room room′ ws ns _
       (ap₂ (λ (b b′ : Bool). demanding refused b sheet-too-long
       (demanding refused (b′ && leb 512 room′) buffer-too-small (sheetFrom (length s + 1) s 0 nothing)))
       (le-leb (length s) 65536 h) (lt-leb 8192 room h′))
 
   pub short-names : length s ≤ 65536 → room′ < 512 → ws ≡ padded room [] → ns ≡ padded room′ []
-      → heads ≡ replicate 16 0 → ReadInto (sheetOutcome s room room′) room room′ (NotRead buffer-too-small) ws ns heads
+      → ReadInto (sheetOutcome s room room′) room room′ (NotRead buffer-too-small) ws ns
   unfolding sheetOutcome
-  short-names h h′ = refused-into buffer-too-small room room′ ws ns heads _
+  short-names h h′ = refused-into buffer-too-small room room′ ws ns _
       (ap₂ (λ (b b′ : Bool). demanding refused b sheet-too-long (demanding refused b′ buffer-too-small (sheetFrom (length s + 1) s 0 nothing)))
       (le-leb (length s) 65536 h)
       (ap (λ (b : Bool). leb 8192 room && b) (lt-leb 512 room′ h′) ∙ and-false (leb 8192 room)))
 
   pub read-on : (r : Filled) (n n′ : ℕ) → n ≡ room → n′ ≡ room′ → length s ≤ 65536 → 8192 ≤ n → 512 ≤ n′
-      → ReadInto (sheetFrom (length s + 1) s 0 nothing) n n′ r ws ns heads → ReadInto (sheetOutcome s room room′) room room′ r ws ns heads
+      → ReadInto (sheetFrom (length s + 1) s 0 nothing) n n′ r ws ns → ReadInto (sheetOutcome s room room′) room room′ r ws ns
   unfolding sheetOutcome
   read-on r n n′ e e′ h h′ h″ into =
-      subst₃ (λ (o : Outcome) (x y : ℕ). ReadInto o x y r ws ns heads)
+      subst₃ (λ (o : Outcome) (x y : ℕ). ReadInto o x y r ws ns)
       (sym (ap₂ (λ (b b′ : Bool). demanding refused b sheet-too-long (demanding refused b′ buffer-too-small (sheetFrom (length s + 1) s 0 nothing)))
       (le-leb (length s) 65536 h)
       (ap₂ (λ (b b′ : Bool). b && b′) (le-leb 8192 room (omega arith)) (le-leb 512 room′ (omega arith))))) e e′ into

@@ -2,15 +2,12 @@
 use mathlib.Core.List.{List, []}
 use mathlib.Core.Path.{_≡_}
 use Prim.Native.Nat.{ℕ}
-use lib.ListN.{length, replicate}
+use lib.ListN.{length}
 use Rattle.buffers.specs.Padded.{padded}
-use Rattle.paper.specs.Rules.{Rule}
-use Rattle.refusal.specs.declared.Refusal.{Refusal}
-use Rattle.bits.specs.Sets.{member}
 use Rattle.words.specs.Layout.{wordsOf}
 use Rattle.sheetwords.specs.declared.Filled.{Filled}
 use Rattle.sheetwords.specs.declared.Filled.the-variants.{Read, Refused}
-use Rattle.literals.specs.Literals.{Sofar, isHead}
+use Rattle.literals.specs.Literals.{Sofar}
 use Rattle.sheetwords.specs.Sheets.{Outcome, accepted, refused}
 
 -- what an outcome leaves in the buffers; a refused sheet leaves nothing
@@ -27,22 +24,14 @@ abbrev pub filledBy : Outcome → Filled
 filledBy (accepted sofar) = Read (length (sofar .names)) (length (wordsOf (sofar .rules)))
 filledBy (refused r) = Refused r
 
--- the flags are sixteen words, and their members the heads of the rules
-pub record HeadsIn (heads : List ℕ) (R : List Rule) : Type 0 where
-  pub sixteen : length heads ≡ 16
-  pub are : (j : ℕ) → member heads j ≡ isHead R j
-
--- what filling the buffers leaves: the answer, and where the sheet is accepted its words, names and heads
-pub record FilledBy (o : Outcome) (r : Filled) (ws ns heads : List ℕ) : Type 0 where
+-- what filling the buffers leaves: the answer, and where the sheet is accepted its words and names
+pub record FilledBy (o : Outcome) (r : Filled) (ws ns : List ℕ) : Type 0 where
   pub answer : r ≡ filledBy o
   pub words-are : (sofar : Sofar) → o ≡ accepted sofar → ws ≡ padded (length ws) (wordsOf (sofar .rules))
   pub names-are : (sofar : Sofar) → o ≡ accepted sofar → ns ≡ padded (length ns) (sofar .names)
-  pub heads-are : (sofar : Sofar) → o ≡ accepted sofar → HeadsIn heads (sofar .rules)
 
--- a sheet has been read into buffers of so many entries: the answer, every word, every name entry, and the heads of an accepted sheet, none of a refused one
-pub record ReadInto (o : Outcome) (wordRoom nameRoom : ℕ) (r : Filled) (ws ns heads : List ℕ) : Type 0 where
+-- a sheet has been read into buffers of so many entries: the answer, every word and every name entry
+pub record ReadInto (o : Outcome) (wordRoom nameRoom : ℕ) (r : Filled) (ws ns : List ℕ) : Type 0 where
   pub answer : r ≡ filledBy o
   pub words-are : ws ≡ padded wordRoom (wordsLeft o)
   pub names-are : ns ≡ padded nameRoom (namesLeft o)
-  pub heads-are : (sofar : Sofar) → o ≡ accepted sofar → HeadsIn heads (sofar .rules)
-  pub heads-empty : (x : Refusal) → o ≡ refused x → heads ≡ replicate 16 0

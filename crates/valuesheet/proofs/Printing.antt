@@ -1,7 +1,7 @@
 -- Printing the value sheet line by line, a byte at a time.
 use mathlib.Core.Path.{_≡_, refl, sym, ap, ap₂, _∙_}
 use mathlib.Core.List.{List, [], _∷_, _++_}
-use mathlib.Core.Bool.{Bool, true, false, cond}
+use mathlib.Core.Bool.{Bool, cond}
 use Prim.Native.Nat.{ℕ, zero, suc, _+_, _-_, _%_, _<_, _≤_}
 use native.Mathlib.Nat.{zero-add}
 use native.Mathlib.Numerals.{add-one}
@@ -14,8 +14,8 @@ use Rattle.reader.specs.Sheet.{byteAt}
 use Rattle.names.specs.Names.{bytesAt, nameOf}
 use Rattle.names.proofs.Steps.{length-bytesAt, bytes-cons}
 use Rattle.valuesheet.specs.declared.Printed.the-variants.{Whole, Refused}
-use Rattle.valuesheet.specs.ValueSheet.{letterOf, lineFor, lineIf, hasLine, linesFrom}
-use Rattle.valuesheet.specs.Fitting.{lineBytes, bytesFrom, printing, textAfter}
+use Rattle.valuesheet.specs.ValueSheet.{letterOf, lineFor, linesFrom}
+use Rattle.valuesheet.specs.Fitting.{lineBytes, bytesFor, printing, textAfter}
 
 pub letter-t : (v : ℕ) → (v ≡ 0 → ⊥) → (v ≡ 1 → ⊥) → (v ≡ 2 → ⊥) → 116 ≡ letterOf v
 unfolding letterOf
@@ -65,72 +65,66 @@ line-is s e v t t′ t″ at name value =
     ∙ ap₂ (λ (u : List ℕ) (x : ℕ). sets u x (9 ∷ letterOf v ∷ 10 ∷ [])) name (ap (λ (x : ℕ). at + x) (sym (length-bytesAt s _ (e % 32))))
     ∙ sym (sets-append t at (nameOf s e) (9 ∷ letterOf v ∷ 10 ∷ []))
 
-pub length-line : (shown : Bool) (s : List ℕ) (e v : ℕ) → length (lineIf shown s e v) ≡ lineBytes shown e
-length-line true s e v = length-append (nameOf s e) (9 ∷ letterOf v ∷ 10 ∷ []) ∙ ap (λ (x : ℕ). x + 3) (length-bytesAt s _ (e % 32))
-length-line false s e v = refl
+pub length-line : (s : List ℕ) (e v : ℕ) → length (lineFor s e v) ≡ lineBytes e
+length-line s e v = length-append (nameOf s e) (9 ∷ letterOf v ∷ 10 ∷ []) ∙ ap (λ (x : ℕ). x + 3) (length-bytesAt s _ (e % 32))
 
 -- the lines from an atom on, and the bytes that they need
-module _ (s : List ℕ) (heads : ℕ → Bool) (values : ℕ → ℕ) where
-  pub lines-length : (a : ℕ) (es : List ℕ) → length (linesFrom s heads values a es) ≡ bytesFrom heads a es
-  unfolding linesFrom bytesFrom
+module _ (s : List ℕ) (values : ℕ → ℕ) where
+  pub lines-length : (a : ℕ) (es : List ℕ) → length (linesFrom s values a es) ≡ bytesFor es
+  unfolding linesFrom bytesFor
   lines-length a [] = refl
   lines-length a (e ∷ es) =
-      length-append (lineIf (hasLine heads a) s e (values a)) (linesFrom s heads values (suc a) es)
-      ∙ ap₂ (λ (x y : ℕ). x + y) (length-line (hasLine heads a) s e (values a)) (lines-length (suc a) es)
+      length-append (lineFor s e (values a)) (linesFrom s values (suc a) es)
+      ∙ ap₂ (λ (x y : ℕ). x + y) (length-line s e (values a)) (lines-length (suc a) es)
 
   lines-cons : (a : ℕ) (es : List ℕ) → a < length es
-      → linesFrom s heads values a (drop a es) ≡ lineIf (hasLine heads a) s (getD es a 0) (values a) ++ linesFrom s heads values (a + 1) (drop (a + 1) es)
+      → linesFrom s values a (drop a es) ≡ lineFor s (getD es a 0) (values a) ++ linesFrom s values (a + 1) (drop (a + 1) es)
   unfolding linesFrom
   lines-cons a es h =
-      ap (linesFrom s heads values a) (drop-cons es a 0 h)
-      ∙ ap (λ (x : ℕ). lineIf (hasLine heads a) s (getD es a 0) (values a) ++ linesFrom s heads values x (drop x es)) (sym (add-one a))
+      ap (linesFrom s values a) (drop-cons es a 0 h)
+      ∙ ap (λ (x : ℕ). lineFor s (getD es a 0) (values a) ++ linesFrom s values x (drop x es)) (sym (add-one a))
 
-bytes-of : (heads : ℕ → Bool) (a : ℕ) (es : List ℕ) → a < length es
-    → bytesFrom heads a (drop a es) ≡ lineBytes (hasLine heads a) (getD es a 0) + bytesFrom heads (a + 1) (drop (a + 1) es)
-unfolding bytesFrom
-bytes-of heads a es h =
-    ap (bytesFrom heads a) (drop-cons es a 0 h)
-    ∙ ap (λ (x : ℕ). lineBytes (hasLine heads a) (getD es a 0) + bytesFrom heads x (drop x es)) (sym (add-one a))
+bytes-of : (a : ℕ) (es : List ℕ) → a < length es → bytesFor (drop a es) ≡ lineBytes (getD es a 0) + bytesFor (drop (a + 1) es)
+unfolding bytesFor
+bytes-of a es h =
+    ap bytesFor (drop-cons es a 0 h) ∙ ap (λ (x : ℕ). lineBytes (getD es a 0) + bytesFor (drop x es)) (sym (add-one a))
 
 -- one name of the first n
-module _ (heads : ℕ → Bool) (names : List ℕ) (n a : ℕ) (fits : n ≤ length names) (here : a < n)
-    (shown : Bool) (e : ℕ) (is : shown ≡ hasLine heads a) (entry : e ≡ getD names a 0) where
+module _ (names : List ℕ) (n a : ℕ) (fits : n ≤ length names) (here : a < n) (e : ℕ) (entry : e ≡ getD names a 0) where
   inside : a < length (take n names)
   inside = omega (arith, length-take-le n names fits)
 
   entry-is : getD (take n names) a 0 ≡ e
   entry-is = getD-take n names a 0 here ∙ sym entry
 
-  pub bytes-turn : (total line whole : ℕ) → line ≡ lineBytes shown e → total + bytesFrom heads a (drop a (take n names)) ≡ whole
-      → total + line + bytesFrom heads (a + 1) (drop (a + 1) (take n names)) ≡ whole
+  pub bytes-turn : (total line whole : ℕ) → line ≡ lineBytes e → total + bytesFor (drop a (take n names)) ≡ whole
+      → total + line + bytesFor (drop (a + 1) (take n names)) ≡ whole
   bytes-turn total line whole l inv =
-      omega (arith, inv, bytes-of heads a (take n names) inside, l ∙ ap₂ lineBytes is (sym entry-is))
+      omega (arith, inv, bytes-of a (take n names) inside, l ∙ ap lineBytes (sym entry-is))
 
-  pub line-fits : (at whole : ℕ) → at + bytesFrom heads a (drop a (take n names)) ≡ whole → at + lineBytes shown e ≤ whole
-  line-fits at whole inv = omega (arith, inv, bytes-of heads a (take n names) inside, ap₂ lineBytes is (sym entry-is))
+  pub line-fits : (at whole : ℕ) → at + bytesFor (drop a (take n names)) ≡ whole → at + lineBytes e ≤ whole
+  line-fits at whole inv = omega (arith, inv, bytes-of a (take n names) inside, ap lineBytes (sym entry-is))
 
   pub lines-turn : (s : List ℕ) (values : ℕ → ℕ) (t t′ : List ℕ) (at line v : ℕ)
-      → v ≡ values a → line ≡ lineBytes shown e → t′ ≡ sets t at (lineIf shown s e v)
-      → sets t′ (at + line) (linesFrom s heads values (a + 1) (drop (a + 1) (take n names))) ≡ sets t
-      at (linesFrom s heads values a (drop a (take n names)))
+      → v ≡ values a → line ≡ lineBytes e → t′ ≡ sets t at (lineFor s e v)
+      → sets t′ (at + line) (linesFrom s values (a + 1) (drop (a + 1) (take n names))) ≡ sets t at (linesFrom s values a (drop a (take n names)))
   lines-turn s values t t′ at line v val l put =
-      let rest = linesFrom s heads values (a + 1) (drop (a + 1) (take n names)) in
-      ap₂ (λ (u : List ℕ) (x : ℕ). sets u (at + x) rest) put (l ∙ sym (length-line shown s e v))
-      ∙ sym (sets-append t at (lineIf shown s e v) rest)
-      ∙ ap (λ (u : List ℕ). sets t at (u ++ rest))
-      (ap₂ (λ (b : Bool) (x : ℕ). lineIf b s x v) is (sym entry-is) ∙ ap (lineIf (hasLine heads a) s (getD (take n names) a 0)) val)
-      ∙ ap (sets t at) (sym (lines-cons s heads values a (take n names) inside))
+      let rest = linesFrom s values (a + 1) (drop (a + 1) (take n names)) in
+      ap₂ (λ (u : List ℕ) (x : ℕ). sets u (at + x) rest) put (l ∙ sym (length-line s e v))
+      ∙ sym (sets-append t at (lineFor s e v) rest)
+      ∙ ap₂ (λ (x y : ℕ). sets t at (lineFor s x y ++ rest)) (sym entry-is) val
+      ∙ ap (sets t at) (sym (lines-cons s values a (take n names) inside))
 
 -- past the last name
-pub no-bytes : (heads : ℕ → Bool) (names : List ℕ) (n a : ℕ) → n ≤ length names → n ≤ a → bytesFrom heads a (drop a (take n names)) ≡ 0
-unfolding bytesFrom
-no-bytes heads names n a fits h = ap (bytesFrom heads a) (drop-of-length-le (take n names) {i = a} (omega (arith, length-take-le n names fits)))
+pub no-bytes : (names : List ℕ) (n a : ℕ) → n ≤ length names → n ≤ a → bytesFor (drop a (take n names)) ≡ 0
+unfolding bytesFor
+no-bytes names n a fits h = ap bytesFor (drop-of-length-le (take n names) {i = a} (omega (arith, length-take-le n names fits)))
 
-pub no-lines : (s : List ℕ) (heads : ℕ → Bool) (values : ℕ → ℕ) (names : List ℕ) (n a : ℕ)
-    → n ≤ length names → n ≤ a → linesFrom s heads values a (drop a (take n names)) ≡ []
+pub no-lines : (s : List ℕ) (values : ℕ → ℕ) (names : List ℕ) (n a : ℕ)
+    → n ≤ length names → n ≤ a → linesFrom s values a (drop a (take n names)) ≡ []
 unfolding linesFrom
-no-lines s heads values names n a fits h =
-    ap (linesFrom s heads values a) (drop-of-length-le (take n names) {i = a} (omega (arith, length-take-le n names fits)))
+no-lines s values names n a fits h =
+    ap (linesFrom s values a) (drop-of-length-le (take n names) {i = a} (omega (arith, length-take-le n names fits)))
 
 -- what printing leaves
 pub does-not-fit : (out text : List ℕ) (needed : ℕ) → needed ≡ length out → length text < needed

@@ -1,22 +1,21 @@
 -- Stage: the bytes that a value sheet needs, and what printing it leaves in a text room.
 use mathlib.Core.List.{List, [], _∷_, _++_}
-use mathlib.Core.Bool.{Bool, cond}
-use Prim.Native.Nat.{ℕ, suc, _+_}
+use mathlib.Core.Bool.{cond}
+use Prim.Native.Nat.{ℕ, _+_}
 use lib.Dec.{leb}
 use lib.ListN.{length, drop}
-use Rattle.valuesheet.specs.ValueSheet.{hasLine}
 use Rattle.refusal.specs.Numbers.{text-room-too-small}
 use Rattle.names.specs.Names.{lengthOf}
 use Rattle.valuesheet.specs.declared.Printed.{Printed}
 use Rattle.valuesheet.specs.declared.Printed.the-variants.{Whole, Refused}
 
 -- the bytes that it needs
-abbrev pub lineBytes : Bool → ℕ → ℕ
-lineBytes shown e = cond shown (lengthOf e + 3) 0
+abbrev pub lineBytes : ℕ → ℕ
+lineBytes e = lengthOf e + 3
 
-unfoldable pub bytesFrom : (ℕ → Bool) → ℕ → List ℕ → ℕ
-bytesFrom heads a [] = 0
-bytesFrom heads a (e ∷ names) = lineBytes (hasLine heads a) e + bytesFrom heads (suc a) names
+unfoldable pub bytesFor : List ℕ → ℕ
+bytesFor [] = 0
+bytesFor (e ∷ names) = lineBytes e + bytesFor names
 
 -- the answer: its length, or that it does not fit
 unfoldable pub printing : List ℕ → ℕ → Printed

@@ -1,2 +1,3 @@
 pub mod ValueSheet
+pub mod Lines
 pub mod Fitting

@@ -1,14 +1,12 @@
 use refusal::Refusal;
 ghost use mathlib.Core.Path.{_≡_};
-ghost use mathlib.Core.Bool.{Bool};
-ghost use Prim.Native.Nat.{_+_, _*_, _<_, _≤_, _^_};
+ghost use Prim.Native.Nat.{_+_, _<_, _≤_, _^_};
 ghost use lib.ListN.{length, getD, take, set};
 ghost use lib.Seq.{sets};
 ghost use Rattle.limits.specs.Limits.{mostAtoms};
-ghost use Rattle.bits.specs.Sets.{member};
 ghost use Rattle.names.specs.Names.{bytesAt};
-ghost use Rattle.valuesheet.specs.ValueSheet.{letterOf, lineFor, lineIf, hasLine, valueSheet};
-ghost use Rattle.valuesheet.specs.Fitting.{lineBytes, bytesFrom, printing, textAfter};
+ghost use Rattle.valuesheet.specs.ValueSheet.{letterOf, lineFor, valueSheet};
+ghost use Rattle.valuesheet.specs.Fitting.{lineBytes, bytesFor, printing, textAfter};
 
 // What printing answers: the bytes written, or that they do not fit.
 pub enum Printed {
@@ -31,36 +29,24 @@ fn letter(v: u8) -> u8
     b't'
 }
 
-fn has_line(heads: &[u64], a: usize) -> bool
-    requires { ⌜ a ≤ mostAtoms ⌝ }
-    ensures { λ r. ⌜ r ≡ hasLine (member (now (heads .entry))) a ⌝ }
-{
-    if bits::has(heads, 2 * a) {
-        true
-    } else {
-        bits::has(heads, 2 * a + 1)
-    }
-}
-
-fn line_bytes(shown: bool, e: usize) -> usize
-    ensures { λ r. ⌜ r ≡ lineBytes shown e ⌝ }
+fn line_bytes(e: usize) -> usize
+    ensures { λ r. ⌜ r ≡ lineBytes e ⌝ }
     ensures { λ r. ⌜ r ≤ 34 ⌝ }
 {
-    if shown { e % 32 + 3 } else { 0 }
+    e % 32 + 3
 }
 
 // The bytes that the value sheet of `n` names needs.
-fn bytes_needed(names: &[u32], n: usize, heads: &[u64]) -> usize
+fn bytes_needed(names: &[u32], n: usize) -> usize
     requires { ⌜ n ≤ mostAtoms ⌝ }
     requires { ⌜ n ≤ length (now names) ⌝ }
-    ensures { λ r. ⌜ r ≡ bytesFrom (member (now (heads .entry))) 0 (take n (now (names .entry))) ⌝ }
+    ensures { λ r. ⌜ r ≡ bytesFor (take n (now (names .entry))) ⌝ }
 {
     let mut total: usize = 0;
     let mut a: usize = 0;
     while a < n {
-        let shown = has_line(heads, a);
         let e = names::entry(names, a);
-        total = total + line_bytes(shown, e);
+        total = total + line_bytes(e);
         a += 1;
     }
     total
@@ -92,59 +78,41 @@ fn put_value(text: &mut [u8], at: usize, v: u8)
 
 fn put_line(sheet: &[u8], e: usize, v: u8, text: &mut [u8], at: usize)
     requires { ⌜ e < 2 ^ 32 ⌝ }
-    requires { ⌜ at + lineBytes Bool.true e ≤ length (now text) ⌝ }
+    requires { ⌜ at + lineBytes e ≤ length (now text) ⌝ }
     ensures { λ _. ⌜ now (text .exit) ≡ sets (now (text .entry)) at (lineFor (now (sheet .entry)) e v) ⌝ }
 {
     put_name(sheet, e / 32, e % 32, text, at);
     put_value(text, at + e % 32, v);
 }
 
-fn put_line_if(shown: bool, sheet: &[u8], e: usize, v: u8, text: &mut [u8], at: usize)
-    requires { ⌜ e < 2 ^ 32 ⌝ }
-    requires { ⌜ at + lineBytes shown e ≤ length (now text) ⌝ }
-    ensures { λ _. ⌜ now (text .exit) ≡ sets (now (text .entry)) at (lineIf shown (now (sheet .entry)) e v) ⌝ }
-{
-    if shown {
-        put_line(sheet, e, v, text, at);
-    }
-}
-
-fn put_lines(sheet: &[u8], names: &[u32], n: usize, heads: &[u64], values: &[u8], text: &mut [u8])
+fn put_lines(sheet: &[u8], names: &[u32], n: usize, values: &[u8], text: &mut [u8])
     requires { ⌜ n ≤ mostAtoms ⌝ }
     requires { ⌜ n ≤ length (now names) ⌝ }
-    requires { ⌜ bytesFrom (member (now heads)) 0 (take n (now names)) ≤ length (now text) ⌝ }
-    ensures { λ _. ⌜ now (text .exit) ≡ sets (now (text .entry)) 0 (valueSheet (now (sheet .entry)) (member (now (heads .entry))) (λ a. getD (now (values .entry)) a 0) (take n (now (names .entry)))) ⌝ }
+    requires { ⌜ bytesFor (take n (now names)) ≤ length (now text) ⌝ }
+    ensures { λ _. ⌜ now (text .exit) ≡ sets (now (text .entry)) 0 (valueSheet (now (sheet .entry)) (λ a. getD (now (values .entry)) a 0) (take n (now (names .entry)))) ⌝ }
 {
     let mut at: usize = 0;
     let mut a: usize = 0;
     while a < n {
-        let shown = has_line(heads, a);
         let e = names::entry(names, a);
         let v = reader::byte(values, a);
-        put_line_if(shown, sheet, e, v, text, at);
-        at = at + line_bytes(shown, e);
+        put_line(sheet, e, v, text, at);
+        at = at + line_bytes(e);
         a += 1;
     }
 }
 
 // Prints the value sheet of `n` names, if it fits the text room.
-pub fn print(
-    sheet: &[u8],
-    names: &[u32],
-    n: usize,
-    heads: &[u64],
-    values: &[u8],
-    text: &mut [u8],
-) -> Printed
+pub fn print(sheet: &[u8], names: &[u32], n: usize, values: &[u8], text: &mut [u8]) -> Printed
     requires { ⌜ n ≤ mostAtoms ⌝ }
     requires { ⌜ n ≤ length (now names) ⌝ }
-    ensures { λ r. ⌜ r ≡ printing (valueSheet (now (sheet .entry)) (member (now (heads .entry))) (λ a. getD (now (values .entry)) a 0) (take n (now (names .entry)))) (length (now (text .entry))) ⌝ }
-    ensures { λ _. ⌜ now (text .exit) ≡ textAfter (valueSheet (now (sheet .entry)) (member (now (heads .entry))) (λ a. getD (now (values .entry)) a 0) (take n (now (names .entry)))) (now (text .entry)) ⌝ }
+    ensures { λ r. ⌜ r ≡ printing (valueSheet (now (sheet .entry)) (λ a. getD (now (values .entry)) a 0) (take n (now (names .entry)))) (length (now (text .entry))) ⌝ }
+    ensures { λ _. ⌜ now (text .exit) ≡ textAfter (valueSheet (now (sheet .entry)) (λ a. getD (now (values .entry)) a 0) (take n (now (names .entry)))) (now (text .entry)) ⌝ }
 {
-    let needed = bytes_needed(names, n, heads);
+    let needed = bytes_needed(names, n);
     if text.len() < needed {
         return Printed::Refused(refusal::at(refusal::TEXT_ROOM_TOO_SMALL, needed));
     }
-    put_lines(sheet, names, n, heads, values, text);
+    put_lines(sheet, names, n, values, text);
     Printed::Whole(needed)
 }

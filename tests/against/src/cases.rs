@@ -1,7 +1,7 @@
 //! How many cases to run, and what they met.
 
 use std::collections::BTreeMap;
-use std::fmt::Debug;
+use std::fmt::{self, Debug};
 
 use second::refusal::Refusal;
 
@@ -17,10 +17,22 @@ fn factor() -> u64 {
     }
 }
 
-/// How often each outcome was met.
-#[derive(Clone, Debug, Default)]
+/// How often each outcome was met, and what a case was beside its outcome.
+#[derive(Clone, Default)]
 pub struct Tally {
     met: BTreeMap<String, u64>,
+    also: BTreeMap<&'static str, u64>,
+}
+
+impl Debug for Tally {
+    fn fmt(&self, f: &mut fmt::Formatter) -> fmt::Result {
+        self.met.fmt(f)?;
+        if self.also.is_empty() {
+            return Ok(());
+        }
+        write!(f, ", among them ")?;
+        self.also.fmt(f)
+    }
 }
 
 impl Tally {
@@ -37,6 +49,11 @@ impl Tally {
             Ok(_) => self.note(&format!("{what} ok")),
             Err(refusal) => self.note(&format!("{what} {}", refusal.number)),
         }
+    }
+
+    /// Notes something of a case that is no outcome.
+    pub fn also(&mut self, what: &'static str) {
+        *self.also.entry(what).or_insert(0) += 1;
     }
 
     pub fn times(&self, outcome: &str) -> u64 {
@@ -56,6 +73,14 @@ impl Tally {
         }
         for outcome in self.met.keys() {
             assert!(outcomes.contains(&outcome.as_str()), "'{outcome}' should not be met: {self:#?}");
+        }
+    }
+    /// Cases that were each of these were met so many times.
+    pub fn expect_also(&self, least: &[(&str, u64)]) {
+        println!("among them {:?}", self.also);
+        for (what, least) in least {
+            let times = self.also.get(what).copied().unwrap_or(0);
+            assert!(times >= *least, "'{what}' was met {times} times, not {least}: {self:#?}");
         }
     }
 }

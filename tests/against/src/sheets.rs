@@ -1,9 +1,11 @@
-//! The reader and the sheet entry of `tests/probe.h`.
+//! The reader and the sheet entry of `tests/probe.h`, and what to note of a sheet.
 
+use second::random::{heads_and_others, lines_length};
 use second::reader::{Reading, Role, SheetLiteral};
-use second::refusal::Refusal;
+use second::refusal::{Refusal, TEXT_ROOM_TOO_SMALL};
 use second::sheet::Accepted;
 
+use crate::cases::Tally;
 use crate::entries::unpacked;
 use crate::guard::Guarded;
 
@@ -104,5 +106,26 @@ pub fn read_sheet(sheet: &[u8], words: &mut [u16], names: &mut [u32], text: &mut
             assert_eq!((n, words_filled), (0, 0), "counts after a refusal");
             Err(refusal)
         }
+    }
+}
+
+/// An accepted sheet some of whose names stand only in bodies.
+pub const ONLY_IN_BODIES: &str = "accepted with names only in bodies";
+
+/// A sheet whose text room is too small by the lines of such names alone.
+pub const ROOM_FOR_HEADS: &str = "15 with room for the lines of the heads";
+
+/// Notes the answer to a sheet with a text room of so many bytes, and which of these two it was.
+pub fn note<T>(tally: &mut Tally, sheet: &[u8], room: usize, answer: &Result<T, Refusal>) {
+    tally.answer("sheet", answer);
+    let (heads, others) = match answer {
+        Ok(_) | Err(Refusal { number: TEXT_ROOM_TOO_SMALL, .. }) => heads_and_others(sheet),
+        Err(_) => return,
+    };
+    if answer.is_ok() && !others.is_empty() {
+        tally.also(ONLY_IN_BODIES);
+    }
+    if answer.is_err() && room >= lines_length(&heads) {
+        tally.also(ROOM_FOR_HEADS);
     }
 }

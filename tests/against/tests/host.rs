@@ -173,6 +173,7 @@ mod sheet {
     use against::entries::unpacked;
     use against::guard::Guarded;
     use against::host;
+    use against::sheets::{self, ONLY_IN_BODIES, ROOM_FOR_HEADS};
     use against::shrink::without_parts;
     use second::host::simmerknot_sheet as second_sheet;
     use second::random::{self, Chance, SHEET_DAMAGES};
@@ -208,7 +209,7 @@ mod sheet {
     /// Both sides answer the same and leave the same bytes; if not, the smallest sheet found is shown.
     fn compare(sheet: &[u8], lent: &Buffers, before: usize, tally: &mut Tally) {
         let expected = second(sheet, lent);
-        tally.answer("sheet", &unpacked(expected.0));
+        sheets::note(tally, sheet, lent.text.len(), &unpacked(expected.0));
         if engine(sheet, lent, before) != expected {
             let sheet = without_parts(sheet, |sheet| engine(sheet, lent, before) != second(sheet, lent));
             let ((ours, left), (theirs, right)) = (engine(&sheet, lent, before), second(&sheet, lent));
@@ -227,11 +228,7 @@ mod sheet {
 
     /// Buffers of awkward lengths, large enough most of the time; the text room fits or just does not.
     fn buffers(chance: &mut Chance, sheet: &[u8]) -> Buffers {
-        let mut lent = Buffers { words: random::word_bytes(chance), names: random::name_bytes(chance), text: vec![0; 20_000] };
-        let (answer, _) = second(sheet, &lent);
-        let needed = unpacked(answer).unwrap_or(10) as usize;
-        lent.text = random::text_room(chance, needed);
-        lent
+        Buffers { words: random::word_bytes(chance), names: random::name_bytes(chance), text: random::text_room(chance, sheet) }
     }
 
     fn full(text: usize) -> Buffers {
@@ -252,6 +249,7 @@ mod sheet {
             compare(&sheet, &lent, chance.of(&BEFORE), &mut tally);
         }
         tally.expect(&OUTCOMES, cases(400));
+        tally.expect_also(&[(ONLY_IN_BODIES, cases(4_000)), (ROOM_FOR_HEADS, cases(1_200))]);
     }
 
     #[test]
@@ -275,10 +273,14 @@ mod sheet {
         let lent = full(60);
         for _ in 0..cases(150_000) {
             let length = chance.index(14);
-            let sheet: Vec<u8> = (0..length).map(|_| chance.of(b"ab\t \n\n-\na0")).collect();
+            let mut sheet: Vec<u8> = (0..length).map(|_| chance.of(b"ab\t\t \n\n-\nab0")).collect();
+            if chance.one_in(2) {
+                sheet.push(b'\n');
+            }
             compare(&sheet, &lent, 13, &mut tally);
         }
         tally.expect(&["sheet ok", "sheet 7", "sheet 10"], cases(500));
+        tally.expect_also(&[(ONLY_IN_BODIES, cases(400))]);
     }
 
     #[test]
@@ -297,6 +299,7 @@ mod sheet {
             compare(&base[..at], &lent, 13, &mut tally);
         }
         tally.expect(&["sheet ok", "sheet 7", "sheet 10"], 1);
+        tally.expect_also(&[(ONLY_IN_BODIES, 1_600)]);
     }
 
     #[test]
@@ -322,6 +325,7 @@ mod sheet {
         for (count, outcome) in [(511, "sheet ok"), (512, "sheet ok"), (513, "sheet 12"), (514, "sheet 12")] {
             at((0..count).map(|i| format!("n{i}\n")).collect::<String>().as_bytes(), outcome);
             at((0..count).map(|i| format!("-n{i}\n")).collect::<String>().as_bytes(), outcome);
+            at(&one_head(count), outcome);
         }
         for (words, outcome) in [(8190, "sheet ok"), (8191, "sheet ok"), (8192, "sheet ok"), (8193, "sheet 14"), (8194, "sheet 14")] {
             for seed in 0..20 {
@@ -329,11 +333,20 @@ mod sheet {
             }
         }
         tally.expect(&["sheet ok", "sheet 10", "sheet 11", "sheet 12", "sheet 13", "sheet 14"], 1);
+        tally.expect_also(&[(ONLY_IN_BODIES, 70)]);
     }
 
     /// So many distinct names of 24 bytes, each a fact.
     fn facts(count: usize) -> Vec<u8> {
         (0..count).flat_map(|i| format!("n{i:0>23}\n").into_bytes()).collect()
+    }
+
+    /// So many distinct names of 24 bytes, all but the head only in the groups of its rule.
+    fn one_head(count: usize) -> Vec<u8> {
+        let parts = ["\n", "\t", " "];
+        let part = |i: usize| parts[if i == 0 { 0 } else if i % 64 == 1 { 1 } else { 2 }];
+        let literals: String = (0..count).map(|i| format!("{}n{i:0>23}", part(i))).collect();
+        format!("{}\n", literals.trim_start()).into_bytes()
     }
 
     /// A sheet of so many bytes with one rule a line, its groups of one name of 20 bytes, then facts up to the length.
@@ -374,12 +387,13 @@ mod sheet {
     fn full_sheets_in_buffers_at_each_limit() {
         let mut tally = Tally::default();
         let words = |words| random::full_draft(&mut Chance::new(1), words).sheet();
-        for sheet in [words(8192), words(8193), facts(512), facts(513), long(65_536), long(65_537)] {
+        for sheet in [words(8192), words(8193), facts(512), facts(513), one_head(512), one_head(513), long(65_536), long(65_537)] {
             let needed = unpacked(second(&sheet, &full(20_000)).0).unwrap_or(100) as usize;
+            let heads = random::lines_length(&random::heads_and_others(&sheet).0);
             // 8,191 to 8,193 whole words and 511 to 513 whole name entries, each with every number of bytes after them.
             for words in 16_382..16_388 {
                 for names in 2044..2056 {
-                    for text in [needed - 1, needed, needed + 1] {
+                    for text in [heads, needed - 1, needed, needed + 1] {
                         let lent = Buffers { words: vec![7; words], names: vec![7; names], text: vec![7; text] };
                         compare(&sheet, &lent, BEFORE[words % 2], &mut tally);
                     }
@@ -387,6 +401,7 @@ mod sheet {
             }
         }
         tally.expect(&["sheet ok", "sheet 8", "sheet 9", "sheet 12", "sheet 14", "sheet 15"], 96);
+        tally.expect_also(&[(ONLY_IN_BODIES, 192), (ROOM_FOR_HEADS, 192)]);
     }
 
     #[test]
@@ -394,8 +409,8 @@ mod sheet {
         let mut tally = Tally::default();
         for words in [0, 1, 2, 3, 16_381, 16_382, 16_383, 16_384, 16_385, 16_386, 16_391, 40_000] {
             for names in [0, 1, 3, 4, 2043, 2044, 2047, 2048, 2049, 2051, 2052, 2055, 5000] {
-                for sheet in [&b""[..], b"a\n", b"a", b"b\ta\n-a\n", b"a\na\n"] {
-                    for text in [0, 3, 4, 5, 7, 8, 9] {
+                for sheet in [&b""[..], b"a\n", b"a", b"b\ta\n-a\n", b"a\na\n", b"b\ta -c\n"] {
+                    for text in [0, 3, 4, 5, 7, 8, 9, 11, 12] {
                         let lent = Buffers { words: vec![7; words], names: vec![7; names], text: vec![7; text] };
                         compare(sheet, &lent, 13, &mut tally);
                     }
@@ -403,6 +418,7 @@ mod sheet {
             }
         }
         tally.expect(&["sheet ok", "sheet 7", "sheet 9", "sheet 10", "sheet 15"], 10);
+        tally.expect_also(&[(ONLY_IN_BODIES, 30), (ROOM_FOR_HEADS, 180)]);
     }
 
     #[test]
@@ -422,5 +438,7 @@ mod sheet {
             compare(&example.table().sheet(), &full(400), 13, &mut tally);
         }
         tally.expect(&["sheet ok"], 12);
+        // P3 and P9.
+        tally.expect_also(&[(ONLY_IN_BODIES, 2)]);
     }
 }

@@ -1,7 +1,7 @@
 //! The sheet entry over words and name entries: the answer, every entry and every byte afterwards.
 
 use against::cases::{Tally, cases};
-use against::sheets;
+use against::sheets::{self, ONLY_IN_BODIES, ROOM_FOR_HEADS};
 use against::shrink::without_parts;
 use second::random::{self, Chance, SHEET_DAMAGES};
 use second::refusal::Refusal;
@@ -20,7 +20,7 @@ fn both(sheet: &[u8], words: &[u16], names: &[u32], text: &[u8]) -> [Left; 2] {
 /// Both sides answer the same and leave the same; if not, the smallest sheet found is shown.
 fn compare(sheet: &[u8], words: &[u16], names: &[u32], text: &[u8], tally: &mut Tally) {
     let [engine, second] = both(sheet, words, names, text);
-    tally.answer("sheet", &second.0);
+    sheets::note(tally, sheet, text.len(), &second.0);
     if engine != second {
         let sheet = without_parts(sheet, |sheet| {
             let [engine, second] = both(sheet, words, names, text);
@@ -46,14 +46,14 @@ fn sheets_grown_from_the_grammar_and_damaged() {
     for _ in 0..cases(20_000) {
         let sheet = random::any_sheet(&mut chance);
         let (words, names) = (random::word_buffer(&mut chance), random::name_buffer(&mut chance));
-        let needed = 10 + 30 * chance.index(12);
-        let room = random::text_room(&mut chance, needed);
+        let room = random::text_room(&mut chance, &sheet);
         compare(&sheet, &words, &names, &room, &mut tally);
     }
     let outcomes = [
         "sheet ok", "sheet 7", "sheet 8", "sheet 9", "sheet 10", "sheet 11", "sheet 12", "sheet 13", "sheet 14", "sheet 15",
     ];
     tally.expect(&outcomes, cases(200));
+    tally.expect_also(&[(ONLY_IN_BODIES, cases(3_500)), (ROOM_FOR_HEADS, cases(1_000))]);
 }
 
 #[test]
@@ -79,9 +79,30 @@ fn text_rooms_around_the_length_needed() {
         let sheet = random::accepted_sheet(&mut chance);
         let needed = read_sheet(&sheet, &mut words.clone(), &mut names.clone(), &mut [0; 20_000]);
         let needed = needed.expect("an accepted sheet").value_sheet_length as usize;
-        for room in [0, needed.saturating_sub(1), needed, needed + 1] {
+        let heads = random::lines_length(&random::heads_and_others(&sheet).0);
+        let between = heads + chance.index(needed - heads);
+        for room in [0, heads, between, needed.saturating_sub(1), needed, needed + 1] {
             compare(&sheet, &words, &names, &vec![7; room], &mut tally);
         }
     }
     tally.expect(&["sheet ok", "sheet 15"], cases(1_000));
+    tally.expect_also(&[(ONLY_IN_BODIES, cases(4_000)), (ROOM_FOR_HEADS, cases(6_000))]);
+}
+
+#[test]
+fn the_longest_value_sheets() {
+    let mut tally = Tally::default();
+    let (words, names) = (vec![7; 8192], vec![7; 512]);
+    // 512 names of 24 bytes, so many of them facts, the others in the groups of one rule.
+    let name = |i: usize| format!("n{i:0>23}");
+    for facts in [512, 511, 256, 1] {
+        let others: Vec<String> = (facts..512).map(name).collect();
+        let groups: String = others.chunks(64).map(|group| format!("\t{}", group.join(" "))).collect();
+        let sheet: String = (0..facts).map(|i| name(i) + "\n").chain([format!("-{}{groups}\n", name(0))]).collect();
+        for room in [0, 27 * facts - 1, 27 * facts, 13_823, 13_824, 13_825] {
+            compare(sheet.as_bytes(), &words, &names, &vec![7; room], &mut tally);
+        }
+    }
+    tally.expect(&["sheet ok", "sheet 15"], 9);
+    tally.expect_also(&[(ONLY_IN_BODIES, 6), (ROOM_FOR_HEADS, 6)]);
 }

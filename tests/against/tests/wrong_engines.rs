@@ -1,4 +1,4 @@
-//! Engines that are wrong on purpose part from the second implementation in random traces, and the trace shrinks.
+//! Engines that are wrong on purpose part from the second implementation in random traces, or on random sheets, and these shrink.
 
 use against::cases::Tally;
 use against::entries::{ALREADY_MARKED, Answer, Entries, MARKED, Second};
@@ -143,5 +143,81 @@ fn each_is_noticed_and_its_trace_shrinks() {
 fn the_second_implementation_does_not_part_from_itself() {
     for seed in 0..2_000 {
         assert_eq!(parting(&trace(seed), &Second, &mut Tally::default()), None);
+    }
+}
+
+mod sheets {
+    use against::shrink::without_parts;
+    use second::random::{self, Chance, heads_and_others, lines_length};
+    use second::refusal::{Refusal, TEXT_ROOM_TOO_SMALL, refuse};
+    use second::sheet::{Accepted, read_sheet};
+
+    /// What is wrong about a value sheet.
+    #[derive(Clone, Copy, Debug, PartialEq, Eq)]
+    enum Wrong {
+        NoLineForANameOnlyInBodies,
+        NoLineWhereTheValueIsU,
+        RoomForTheHeadsIsEnough,
+        LengthOfTheHeadsLines,
+        LinesOfTheHeadsFirst,
+    }
+
+    /// Each beside the most bytes of its shortest sheet.
+    const WRONG: [(Wrong, usize); 5] = [
+        (Wrong::NoLineForANameOnlyInBodies, 5),
+        (Wrong::NoLineWhereTheValueIsU, 5),
+        (Wrong::RoomForTheHeadsIsEnough, 5),
+        (Wrong::LengthOfTheHeadsLines, 5),
+        (Wrong::LinesOfTheHeadsFirst, 7),
+    ];
+
+    type Left = (Result<Accepted, Refusal>, Vec<u16>, Vec<u32>, Vec<u8>);
+
+    fn right(sheet: &[u8], room: usize) -> Left {
+        let (mut words, mut names, mut text) = (vec![7; 8192], vec![7; 512], vec![7; room]);
+        let answer = read_sheet(sheet, &mut words, &mut names, &mut text);
+        (answer, words, names, text)
+    }
+
+    /// Right but for the value lines, their length, or the room that they are said to need.
+    fn wrong(wrong: Wrong, sheet: &[u8], room: usize) -> Left {
+        let (answer, words, names, text) = right(sheet, 20_000);
+        let Ok(accepted) = answer else { return right(sheet, room) };
+        let (heads, _) = heads_and_others(sheet);
+        let headed = |line: &&[u8]| heads.iter().any(|name| *name.of(sheet) == line[..line.len() - 3]);
+        let all: Vec<&[u8]> = text[..accepted.value_sheet_length as usize].split_inclusive(|&byte| byte == b'\n').collect();
+        let (of_heads, of_others): (Vec<&[u8]>, Vec<&[u8]>) = all.iter().partition(|line| headed(line));
+        let lines = match wrong {
+            Wrong::NoLineForANameOnlyInBodies => of_heads.concat(),
+            Wrong::NoLineWhereTheValueIsU => all.into_iter().filter(|line| !line.ends_with(b"\tu\n")).collect::<Vec<_>>().concat(),
+            Wrong::LinesOfTheHeadsFirst => [of_heads, of_others].concat().concat(),
+            Wrong::RoomForTheHeadsIsEnough | Wrong::LengthOfTheHeadsLines => all.concat(),
+        };
+        let needed = if wrong == Wrong::RoomForTheHeadsIsEnough { lines_length(&heads) } else { lines.len() };
+        if needed > room {
+            return (refuse(TEXT_ROOM_TOO_SMALL, needed), vec![0; 8192], vec![0; 512], vec![7; room]);
+        }
+        let mut text = vec![7; room];
+        let written = lines.len().min(room);
+        text[..written].copy_from_slice(&lines[..written]);
+        let length = if wrong == Wrong::LengthOfTheHeadsLines { lines_length(&heads) } else { lines.len() };
+        (Ok(Accepted { value_sheet_length: length as u64, ..accepted }), words, names, text)
+    }
+
+    #[test]
+    fn each_is_noticed_and_its_sheet_shrinks() {
+        for (engine, most) in WRONG {
+            let parts = |sheet: &[u8], room: usize| wrong(engine, sheet, room) != right(sheet, room);
+            let mut chance = Chance::new(1);
+            let found = (0..100).find_map(|_| {
+                let sheet = random::any_sheet(&mut chance);
+                let room = random::text_room(&mut chance, &sheet).len();
+                parts(&sheet, room).then_some((sheet, room))
+            });
+            let (sheet, room) = found.unwrap_or_else(|| panic!("{engine:?} was not noticed"));
+            let short = without_parts(&sheet, |sheet| parts(sheet, room));
+            println!("{engine:?}, room {room}: \"{}\"", short.escape_ascii());
+            assert!(short.len() <= most, "{engine:?}, room {room}: \"{}\"", short.escape_ascii());
+        }
     }
 }

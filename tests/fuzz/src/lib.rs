@@ -35,8 +35,8 @@ pub struct Target {
     pub draw: fn(&mut Chance) -> Case,
     pub engine: Box<dyn FnMut(&Case) -> Outcome>,
     pub second: fn(&Case) -> Outcome,
-    /// "ok", or the number of refusal.
-    pub kind: fn(&Outcome) -> String,
+    /// "ok" or the number of refusal, and what names only in bodies have to do with it.
+    pub kind: fn(&Case, &Outcome) -> String,
     /// The kinds that a run of some length must meet.
     pub kinds: &'static [&'static str],
 }
@@ -66,7 +66,7 @@ pub fn run(target: &mut Target, seed: u64, mut more: impl FnMut(u64) -> bool) ->
         RUNNING.store(number, Ordering::Relaxed);
         let case = drawn(target, seed, number);
         let second = (target.second)(&case);
-        tally.note(&(target.kind)(&second));
+        tally.note(&(target.kind)(&case, &second));
         if (target.engine)(&case) != second {
             return Err(Box::new(shrunk(target, number, case)));
         }

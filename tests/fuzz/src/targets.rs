@@ -17,6 +17,17 @@ fn packed_kind(outcome: &Outcome) -> String {
     }
 }
 
+/// The kind of a sheet's outcome, with more said where some names stand only in bodies: of an accepted sheet, and of 15 in a text room
+/// of so many bytes that the lines of the heads alone would fit.
+fn sheet_kind(kind: String, sheet: &[u8], room: usize) -> String {
+    let (heads, others) = random::heads_and_others(sheet);
+    match kind.as_str() {
+        "ok" if !others.is_empty() => "ok, names only in bodies".to_string(),
+        "15" if room >= random::lines_length(&heads) => "15, room for the heads".to_string(),
+        _ => kind,
+    }
+}
+
 /// Which page a case's buffers lie against; both for small and for large ones.
 fn behind(case: &Case) -> bool {
     case.bytes.iter().fold(case.n, |sum, &byte| sum.wrapping_mul(31).wrapping_add(byte.into())) % 4 != 0
@@ -50,7 +61,7 @@ pub fn evaluation() -> Target {
             let answer = second::host::simmerknot_evaluate(case.n, &case.bytes, &mut values);
             Outcome { answer, left: vec![values] }
         },
-        kind: packed_kind,
+        kind: |_, outcome| packed_kind(outcome),
         kinds: &["ok", "1", "2", "3", "4", "5", "6", "7"],
     }
 }
@@ -76,11 +87,8 @@ pub fn sheet() -> Target {
         name: "sheet",
         draw: |chance| {
             let bytes = draw_sheet(chance);
-            let lent = vec![random::word_bytes(chance), random::name_bytes(chance), vec![0; 14_000]];
-            let mut case = Case { n: 0, bytes, lent };
-            let answer = second_sheet(&case).answer;
-            case.lent[2] = random::text_room(chance, if answer >> 32 == 0 { answer as usize } else { 10 });
-            case
+            let lent = vec![random::word_bytes(chance), random::name_bytes(chance), random::text_room(chance, &bytes)];
+            Case { n: 0, bytes, lent }
         },
         engine: Box::new(move |case| {
             let behind = behind(case);
@@ -94,8 +102,10 @@ pub fn sheet() -> Target {
             Outcome { answer, left: pages[1..].iter().map(|pages| pages.lent().to_vec()).collect() }
         }),
         second: second_sheet,
-        kind: packed_kind,
-        kinds: &["ok", "7", "8", "9", "10", "11", "12", "13", "14", "15"],
+        kind: |case, outcome| sheet_kind(packed_kind(outcome), &case.bytes, case.lent[2].len()),
+        kinds: &[
+            "ok", "ok, names only in bodies", "7", "8", "9", "10", "11", "12", "13", "14", "15", "15, room for the heads",
+        ],
     }
 }
 
@@ -118,11 +128,12 @@ pub fn program(path: PathBuf) -> Target {
         }),
         second: |case| Outcome { answer: 0, left: vec![second::program::output(&case.bytes)] },
         // A value sheet may begin with a name "refused", but has no number after it.
-        kind: |outcome| {
+        kind: |case, outcome| {
             let printed = String::from_utf8_lossy(&outcome.left[0]);
             let number = printed.strip_prefix("refused\t").and_then(|rest| rest.split('\t').next()).unwrap_or("");
-            if number.parse::<u32>().is_ok() { number.to_string() } else { "ok".to_string() }
+            let kind = if number.parse::<u32>().is_ok() { number } else { "ok" };
+            sheet_kind(kind.to_string(), &case.bytes, usize::MAX)
         },
-        kinds: &["ok", "7", "8", "10", "11", "12", "13", "14"],
+        kinds: &["ok", "ok, names only in bodies", "7", "8", "10", "11", "12", "13", "14"],
     }
 }

@@ -3,6 +3,7 @@
 use std::process::Command;
 
 use fuzz::{Case, Outcome, Target, run, targets};
+use second::random::{heads_and_others, lines_length};
 
 /// The target with a fault laid over its engine's outcomes parts from the second implementation within so many cases.
 fn noticed(mut target: Target, within: u64, fault: fn(&Case, &mut Outcome)) {
@@ -76,6 +77,47 @@ fn sheet_with_12_in_the_place_of_7() {
     });
 }
 
+/// The lines of a value sheet that are kept.
+fn kept(lines: &[u8], keep: impl Fn(&[u8]) -> bool) -> Vec<u8> {
+    lines.split_inclusive(|&byte| byte == b'\n').filter(|line| keep(line)).flatten().copied().collect()
+}
+
+/// An accepted sheet's value sheet with only some of its lines, in the room as it was lent.
+fn keep(case: &Case, outcome: &mut Outcome, keep: impl Fn(&[u8]) -> bool) {
+    let lines = kept(&outcome.left[2][..outcome.answer as usize], keep);
+    outcome.left[2] = case.lent[2].clone();
+    outcome.left[2][..lines.len()].copy_from_slice(&lines);
+    outcome.answer = lines.len() as u64;
+}
+
+#[test]
+fn sheet_without_the_lines_of_names_only_in_bodies() {
+    noticed(targets::sheet(), 500, |case, outcome| {
+        if number(outcome) == 0 {
+            let (heads, _) = heads_and_others(&case.bytes);
+            keep(case, outcome, |line| heads.iter().any(|name| *name.of(&case.bytes) == line[..line.len() - 3]));
+        }
+    });
+}
+
+#[test]
+fn sheet_without_lines_where_the_value_is_u() {
+    noticed(targets::sheet(), 500, |case, outcome| {
+        if number(outcome) == 0 {
+            keep(case, outcome, |line| !line.ends_with(b"\tu\n"));
+        }
+    });
+}
+
+#[test]
+fn sheet_with_15_that_counts_the_lines_of_the_heads_alone() {
+    noticed(targets::sheet(), 500, |case, outcome| {
+        if number(outcome) == 15 {
+            outcome.answer = (15 << 32) + lines_length(&heads_and_others(&case.bytes).0) as u64;
+        }
+    });
+}
+
 fn simmer() -> Target {
     targets::program(concat!(env!("CARGO_MANIFEST_DIR"), "/../../target/bin/simmer").into())
 }
@@ -88,6 +130,11 @@ fn program_without_its_last_line() {
             printed.truncate(printed.len() - 1);
         }
     });
+}
+
+#[test]
+fn program_without_lines_where_the_value_is_u() {
+    noticed(simmer(), 50, |_, outcome| outcome.left[0] = kept(&outcome.left[0], |line| !line.ends_with(b"\tu\n")));
 }
 
 #[test]

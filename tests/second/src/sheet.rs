@@ -5,7 +5,7 @@ use std::collections::{BTreeMap, BTreeSet};
 use crate::model;
 use crate::reader::{Reader, Reading, Role, SheetLiteral};
 use crate::refusal::*;
-use crate::table::{self, Literal, Rule, atom_of};
+use crate::table::{self, Literal, Rule};
 use crate::truth;
 
 /// What an accepted sheet answers.
@@ -165,16 +165,15 @@ impl<'a> Gathered<'a> {
     }
 }
 
-/// One line for each atom that heads a rule in either sign, in atom order.
+/// One line for each atom, in atom order: its name, tab, the letter of its value, byte 10.
 fn value_sheet(sheet: &[u8], contents: &Contents) -> Result<Vec<u8>, Refusal> {
     let n = contents.names.len() as u64;
     let marked = model::settle(n, &contents.rules)?;
     let values = model::values_of(&contents.rules, &marked);
-    let headed: BTreeSet<usize> = contents.rules.iter().map(|rule| atom_of(rule.head)).collect();
     let mut lines = Vec::new();
-    for atom in headed {
-        lines.extend_from_slice(contents.names[atom].of(sheet));
-        lines.extend_from_slice(&[b'\t', truth::letter(values[atom]), b'\n']);
+    for (name, value) in contents.names.iter().zip(values) {
+        lines.extend_from_slice(name.of(sheet));
+        lines.extend_from_slice(&[b'\t', truth::letter(value), b'\n']);
     }
     Ok(lines)
 }

@@ -175,10 +175,10 @@ pub const EXAMPLES: [Example; 12] = {
     ]
 };
 
-/// Both sides of the whole run of document 01.
+/// Both sides of the whole run of document 01; every atom has its line (document 02, W1).
 pub const WHOLE_RUN_INPUT: &str =
     "arrived\tlogged\tmailed\nlogged\n-arrived\tgap\ngap\nscored\tarrived audited\naudited\n";
-pub const WHOLE_RUN_OUTPUT: &str = "arrived\ti\nlogged\tt\ngap\tt\nscored\ti\naudited\tt\n";
+pub const WHOLE_RUN_OUTPUT: &str = "arrived\ti\nlogged\tt\nmailed\tu\ngap\tt\nscored\ti\naudited\tt\n";
 
 /// A table to measure on: N is 512 and at most 8,192 words.
 pub struct Measured {

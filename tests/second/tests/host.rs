@@ -81,6 +81,22 @@ fn buffers_too_small_are_9_and_zeroed_to_the_last_whole_entry() {
 }
 
 #[test]
+fn the_answered_length_counts_every_atom() {
+    let sheet = b"p\tq -r\n";
+    let (mut words, mut names, mut text) = (vec![7; 16_384], vec![7; 2048], vec![7; 14]);
+    assert_eq!(simmerknot_sheet(sheet, &mut words, &mut names, &mut text), 12);
+    assert_eq!(text, b"p\tu\nq\tu\nr\tu\n\x07\x07");
+    assert_eq!(entry_bytes(&[1, 32 * 2 + 1, 32 * 5 + 1, 0]), names[..16]);
+    assert_eq!(table_bytes(&[0, 1, 2, 2, 5, 0]), words[..12]);
+    // Enough for the line of p alone, and one byte too few for all.
+    for room in [4, 11] {
+        let mut text = vec![7; room];
+        assert_eq!(simmerknot_sheet(sheet, &mut words, &mut names, &mut text), packed(15, 12));
+        assert!(words.iter().chain(&names).all(|&byte| byte == 0) && text.iter().all(|&byte| byte == 7));
+    }
+}
+
+#[test]
 fn a_place_beyond_16_bits_is_told_whole() {
     let mut sheet = b"a\t".to_vec();
     for _ in 0..511 {
@@ -144,7 +160,7 @@ fn the_sheet_entry_on_bytes_equals_the_sheet_entry() {
         let mut chance = Chance::new(seed);
         let sheet = random::any_sheet(&mut chance);
         let (mut words, mut names) = (random::word_bytes(&mut chance), random::name_bytes(&mut chance));
-        let mut text = random::text_room(&mut chance, 40);
+        let mut text = random::text_room(&mut chance, &sheet);
         let (mut words_before, mut names_before) = (words.clone(), names.clone());
         let (mut entries, mut starts) = (vec![7; words.len() / 2], vec![7; names.len() / 4]);
         let mut same_text = text.clone();

@@ -36,14 +36,36 @@ fn input_above_65536_bytes_is_8() {
     assert_eq!(output(&vec![b'a'; 1 << 20]), b"refused\t8\t0\n");
 }
 
+/// 512 names of 24 bytes.
+fn longest_names() -> Vec<String> {
+    (0..512).map(|i| format!("{}{i:03}", "n".repeat(21))).collect()
+}
+
 #[test]
 fn the_longest_value_sheet_is_printed_whole() {
-    // 512 facts with names of 24 bytes.
-    let names: Vec<String> = (0..512).map(|i| format!("{}{i:03}", "n".repeat(21))).collect();
+    // 512 facts.
+    let names = longest_names();
     let input: String = names.iter().map(|name| format!("{name}\n")).collect();
     let expected: String = names.iter().map(|name| format!("{name}\tt\n")).collect();
-    assert_eq!(expected.len(), 512 * 27);
+    assert_eq!(expected.len(), 13_824);
     assert_eq!(output(input.as_bytes()), expected.into_bytes());
+}
+
+#[test]
+fn so_is_the_longest_one_of_names_that_stand_only_in_bodies() {
+    // One head, and the others in eight groups.
+    let names = longest_names();
+    let groups: Vec<String> = names[1..].chunks(64).map(|group| group.join(" ")).collect();
+    let input = format!("{}\t{}\n", names[0], groups.join("\t"));
+    let expected: String = names.iter().map(|name| format!("{name}\tu\n")).collect();
+    assert_eq!(expected.len(), 13_824);
+    assert_eq!(output(input.as_bytes()), expected.into_bytes());
+}
+
+#[test]
+fn a_name_that_heads_no_rule_is_printed_as_u() {
+    assert_eq!(output(b"p\tq -r\n"), b"p\tu\nq\tu\nr\tu\n");
+    assert_eq!(output(b"a\n-a\np\ta b\n"), b"a\ti\np\tu\nb\tu\n");
 }
 
 #[test]

@@ -92,3 +92,53 @@ fn drafts_are_accepted() {
     }
     assert!(many_names > 20 && many_groups > 20 && many_literals > 20, "{many_names} {many_groups} {many_literals}");
 }
+
+#[test]
+fn names_that_stand_only_in_bodies_are_common() {
+    let (mut with_bodies, mut some, mut most, mut many, mut one_head, mut none) = (0, 0, 0, 0, 0, 0);
+    for seed in 0..2000 {
+        let draft = draft(&mut Chance::new(seed));
+        let (heads, others) = heads_and_others(&draft.sheet());
+        if draft.lines.iter().all(|line| line.groups.is_empty()) {
+            assert!(others.is_empty(), "seed {seed}");
+            continue;
+        }
+        with_bodies += 1;
+        some += !others.is_empty() as u32;
+        most += (others.len() > heads.len()) as u32;
+        many += (others.len() >= 100) as u32;
+        one_head += (heads.len() == 1 && !others.is_empty()) as u32;
+        none += others.is_empty() as u32;
+    }
+    let met = [with_bodies, some, most, many, one_head, none];
+    assert!(with_bodies > 1700 && some > 1400 && most > 650 && many > 70 && one_head > 340 && none > 250, "{met:?}");
+}
+
+#[test]
+fn heads_and_others_divide_the_names() {
+    let sheet = b"p\tq -r\n-s\tp\t-s t\n";
+    let of = |names: Vec<second::sheet::Name>| names.iter().map(|name| name.of(sheet).to_vec()).collect::<Vec<_>>();
+    let (heads, others) = heads_and_others(sheet);
+    assert_eq!((lines_length(&heads), lines_length(&others)), (8, 12));
+    assert_eq!((of(heads), of(others)), (vec![b"p".to_vec(), b"s".to_vec()], vec![b"q".to_vec(), b"r".to_vec(), b"t".to_vec()]));
+    assert_eq!(heads_and_others(b"p\tq\np\n"), (Vec::new(), Vec::new()));
+}
+
+#[test]
+fn text_rooms_fit_or_fit_the_lines_of_the_heads_alone() {
+    let (mut below, mut heads_alone, mut exact, mut more) = (0, 0, 0, 0);
+    for seed in 0..2000 {
+        let mut chance = Chance::new(seed);
+        let sheet = accepted_sheet(&mut chance);
+        let (heads, others) = heads_and_others(&sheet);
+        let heads = lines_length(&heads);
+        let needed = heads + lines_length(&others);
+        let room = text_room(&mut chance, &sheet).len();
+        below += (room < heads) as u32;
+        heads_alone += (heads <= room && room < needed) as u32;
+        exact += (room == needed) as u32;
+        more += (room > needed) as u32;
+    }
+    let met = [below, heads_alone, exact, more];
+    assert!(below > 100 && heads_alone > 250 && exact > 350 && more > 1000, "{met:?}");
+}

@@ -55,14 +55,14 @@ fn the_empty_sheet_is_accepted() {
 fn words_names_and_value_sheet() {
     let sheet = b"arrived\tlogged\tmailed -gap\n-gap\n";
     let run = run_with(sheet, 8200, 600, 100);
-    assert_eq!(run.answer, Ok(Accepted { n: 4, words_filled: 9, value_sheet_length: 16 }));
+    assert_eq!(run.answer, Ok(Accepted { n: 4, words_filled: 9, value_sheet_length: 34 }));
     assert_eq!(run.words[..9], [0, 2, 1, 2, 2, 4, 7, 7, 0]);
     assert!(run.words[9..].iter().all(|&word| word == 0));
     let entries = [7, 32 * 8 + 6, 32 * 15 + 6, 32 * 23 + 3];
     assert_eq!(run.names[..4], entries);
     assert!(run.names[4..].iter().all(|&entry| entry == 0));
-    assert_eq!(&run.text[..16], b"arrived\tu\ngap\tf\n");
-    assert!(run.text[16..].iter().all(|&byte| byte == 7));
+    assert_eq!(&run.text[..34], b"arrived\tu\nlogged\tu\nmailed\tu\ngap\tf\n");
+    assert!(run.text[34..].iter().all(|&byte| byte == 7));
 }
 
 #[test]
@@ -73,9 +73,24 @@ fn the_whole_run_of_document_01() {
 #[test]
 fn value_lines_stand_in_atom_order() {
     assert_eq!(value_sheet(b"a\tc\nb\nc\n"), "a\tt\nc\tt\nb\tt\n");
-    // An atom that heads a rule in either sign has its line once; one that heads none has no line.
-    assert_eq!(value_sheet(b"-a\tb\na\n"), "a\tt\n");
-    assert_eq!(value_sheet(b"a\tb c\n-c\n"), "a\tu\nc\tf\n");
+    // Neither by heads first, nor by name.
+    assert_eq!(value_sheet(b"z\ty\nx\n-y\n"), "z\tu\ny\tf\nx\tt\n");
+    assert_eq!(value_sheet(b"b\tz\na\n"), "b\tu\nz\tu\na\tt\n");
+}
+
+#[test]
+fn every_atom_has_its_line_once() {
+    assert_eq!(value_sheet(b"p\tq -r\n"), "p\tu\nq\tu\nr\tu\n");
+    // An atom that heads rules in both signs, and stands in bodies too.
+    assert_eq!(value_sheet(b"-a\tb\na\n"), "a\tt\nb\tu\n");
+    assert_eq!(value_sheet(b"a\ta -a\n-a\n"), "a\tf\n");
+    assert_eq!(value_sheet(b"a\tb c\n-c\n"), "a\tu\nb\tu\nc\tf\n");
+    // P2: only in the body of its own negation.
+    assert_eq!(value_sheet(b"-b\tb\n"), "b\tu\n");
+    // The same name in several groups, in both signs, and in several lines.
+    assert_eq!(value_sheet(b"p\tq\tq r\t-q\n-p\tr -q\n"), "p\tu\nq\tu\nr\tu\n");
+    // A name that stands only in bodies is u whatever the rest does.
+    assert_eq!(value_sheet(b"a\n-a\nb\ta\tx\n-c\nd\t-c y\n"), "a\ti\nb\ti\nx\tu\nc\tf\nd\tu\ny\tu\n");
 }
 
 #[test]
@@ -86,8 +101,11 @@ fn the_examples_as_sheets() {
         let accepted = run.answer.unwrap();
         assert_eq!(accepted.n, table.n(), "{}", example.name);
         assert_eq!(run.words[..accepted.words_filled as usize], table.words(), "{}", example.name);
+        let line = |(name, value): (&String, u8)| format!("{name}\t{}\n", truth::letter(value) as char);
+        let lines: String = table.names.iter().zip(example.values_in_order()).map(line).collect();
+        assert_eq!(value_sheet(&table.sheet()), lines, "{}", example.name);
     }
-    assert_eq!(value_sheet(&written(&["p: q"]).sheet()), "p\tu\n");
+    assert_eq!(value_sheet(&written(&["p: q"]).sheet()), "p\tu\nq\tu\n");
 }
 
 #[test]
@@ -270,20 +288,75 @@ fn eight_then_nine_with_buffers_zeroed_whatever_their_size() {
     }
 }
 
-#[test]
-fn fifteen_only_if_the_value_sheet_is_longer_than_the_room() {
-    let sheet = b"ab\nc\tab\n";
-    let run = run_with(sheet, 8192, 512, 9);
-    assert_eq!(run.answer.unwrap().value_sheet_length, 9);
-    assert_eq!(run.text, b"ab\tt\nc\tt\n");
-    for room in [0, 1, 8] {
+/// Asserts that this is what is needed: 15 there in each smaller room of these, accepted in exactly that room.
+fn needs(sheet: &[u8], needed: usize, smaller: &[usize]) {
+    let run = run_with(sheet, 8192, 512, needed);
+    assert_eq!(run.answer.unwrap().value_sheet_length, needed as u64);
+    assert_eq!(run.text, value_sheet(sheet).as_bytes());
+    for &room in smaller {
         let run = run_with(sheet, 8192, 512, room);
-        assert_eq!(run.answer, Err(Refusal { number: 15, place: 9 }));
+        assert_eq!(run.answer, Err(Refusal { number: 15, place: needed as u64 }), "room {room}");
         assert!(run.words.iter().all(|&word| word == 0) && run.names.iter().all(|&entry| entry == 0));
         assert_eq!(run.text, vec![7; room]);
     }
+}
+
+#[test]
+fn fifteen_only_if_the_value_sheet_is_longer_than_the_room() {
+    needs(b"ab\nc\tab\n", 9, &[0, 1, 8]);
     // A broken sheet is refused for its fault, not for the room.
     assert_eq!(run_with(b"ab\nc\tab\nc\n", 8192, 512, 0).answer, Err(Refusal { number: 7, place: 8 }));
+}
+
+#[test]
+fn fifteen_counts_the_lines_of_names_that_head_no_rule() {
+    // Enough for the line of p alone, for those of p and q, and one byte too few.
+    needs(b"p\tq -r\n", 12, &[4, 8, 11]);
+    needs(b"ab\tlonger.name\n", 19, &[5, 14, 18]);
+    // In the whole run 44 bytes are the lines of the heads.
+    needs(WHOLE_RUN_INPUT.as_bytes(), 53, &[0, 44, 45, 52]);
+    let mut chance = Chance::new(17);
+    let mut between = 0;
+    for _ in 0..400 {
+        let sheet = random::accepted_sheet(&mut chance);
+        let (heads, others) = random::heads_and_others(&sheet);
+        let heads = random::lines_length(&heads);
+        let needed = heads + random::lines_length(&others);
+        if !others.is_empty() {
+            between += 1;
+            needs(&sheet, needed, &[heads, heads + chance.index(needed - heads), needed - 1]);
+        }
+    }
+    assert!(between > 250, "{between}");
+}
+
+/// 512 names of 24 bytes, so many of them heads of facts; the others stand in the groups of one rule.
+fn longest_names(facts: usize) -> Vec<u8> {
+    let name = |i: usize| format!("{}{i:03}", "n".repeat(21));
+    let mut sheet: String = (0..facts).map(|i| name(i) + "\n").collect();
+    let bodies: Vec<String> = (facts..512).map(name).collect();
+    if !bodies.is_empty() {
+        sheet += &format!("-{}", name(0));
+        sheet.extend(bodies.chunks(64).map(|group| format!("\t{}", group.join(" "))));
+        sheet += "\n";
+    }
+    sheet.into_bytes()
+}
+
+#[test]
+fn the_longest_value_sheet_has_13824_bytes_whichever_names_head_rules() {
+    for facts in [512, 511, 300, 1] {
+        let sheet = longest_names(facts);
+        let (heads, others) = random::heads_and_others(&sheet);
+        assert_eq!((heads.len(), others.len()), (facts, 512 - facts));
+        needs(&sheet, 13_824, &[0, 27 * facts - 1, 13_823]);
+        let letters: Vec<u8> = value_sheet(&sheet).bytes().skip(25).step_by(27).collect();
+        assert!(letters[..facts].iter().all(|&letter| letter == b't') && letters[facts..].iter().all(|&letter| letter == b'u'));
+    }
+    // No line is longer and there are no more: a name more or a byte more is refused.
+    let all = longest_names(1);
+    assert_eq!(refused(&[&all[..all.len() - 1], b"\tnew\n"].concat()), (12, all.len() as u64));
+    assert_eq!(refused(&[&all[..all.len() - 1], b"n\n"].concat()), (11, all.len() as u64 - 1));
 }
 
 #[test]
@@ -378,20 +451,8 @@ fn the_reader_from_the_start_agrees_with_the_entry() {
                 model::evaluate(accepted.n, &words, &mut values).unwrap();
                 let mut lines = Vec::new();
                 for (atom, name) in names.iter().enumerate() {
-                    let mut at = 0;
-                    let mut headed = false;
-                    while at < words.len() {
-                        headed |= words[at] as usize / 2 == atom;
-                        let groups = words[at + 1];
-                        at += 2;
-                        for _ in 0..groups {
-                            at += 1 + words[at] as usize;
-                        }
-                    }
-                    if headed {
-                        lines.extend_from_slice(name);
-                        lines.extend([b'\t', truth::letter(values[atom]), b'\n']);
-                    }
+                    lines.extend_from_slice(name);
+                    lines.extend([b'\t', truth::letter(values[atom]), b'\n']);
                 }
                 assert_eq!(run.text[..lines.len()], lines, "seed {seed}");
                 assert_eq!(accepted.value_sheet_length, lines.len() as u64, "seed {seed}");
@@ -426,8 +487,8 @@ fn any_sheet_with_any_buffers_leaves_what_it_should() {
         let sheet = random::any_sheet(&mut chance);
         let usual = run(&sheet);
         let (mut words, mut names) = (random::word_buffer(&mut chance), random::name_buffer(&mut chance));
-        let needed = usual.answer.map_or(20, |accepted| accepted.value_sheet_length as usize);
-        let mut text = random::text_room(&mut chance, needed);
+        let needed = usual.answer.map_or(0, |accepted| accepted.value_sheet_length as usize);
+        let mut text = random::text_room(&mut chance, &sheet);
         let room = text.clone();
         let answer = read_sheet(&sheet, &mut words, &mut names, &mut text);
         let expected = if sheet.len() > 65_536 {
@@ -454,4 +515,52 @@ fn any_sheet_with_any_buffers_leaves_what_it_should() {
     }
     assert_eq!(numbers.keys().copied().collect::<Vec<_>>(), [0, 7, 8, 9, 10, 11, 12, 13, 14, 15]);
     assert!(numbers.values().all(|&count| count > 15) && numbers[&0] > 400, "{numbers:?}");
+}
+
+/// The literals of a sheet, cut at the bytes that part them: names without "-".
+fn literal_names(sheet: &[u8]) -> impl Iterator<Item = &[u8]> {
+    let parts = sheet.split(|byte| b"\n\t ".contains(byte)).filter(|part| !part.is_empty());
+    parts.map(|part| part.strip_prefix(b"-").unwrap_or(part))
+}
+
+#[test]
+fn each_name_of_a_sheet_can_be_looked_up_in_its_value_sheet() {
+    let (mut lines_met, mut by_letter, mut others_met, mut literals_met) = (0, [0; 4], 0, 0);
+    for seed in 0..3000 {
+        let sheet = random::accepted_sheet(&mut Chance::new(seed));
+        let run = run(&sheet);
+        let accepted = run.answer.unwrap();
+        let n = accepted.n as usize;
+        let text = &run.text[..accepted.value_sheet_length as usize];
+        // Exactly N lines, each ended by byte 10.
+        let mut lines: Vec<&[u8]> = text.split(|&byte| byte == b'\n').collect();
+        assert_eq!(lines.pop(), Some(&b""[..]), "seed {seed}");
+        assert_eq!(lines.len(), n, "seed {seed}");
+        // Line a is the name of atom a, tab, the letter of its value.
+        let mut values = vec![9; n];
+        model::evaluate(accepted.n, &run.words[..accepted.words_filled as usize], &mut values).unwrap();
+        let mut found = std::collections::BTreeMap::new();
+        for (atom, line) in lines.iter().enumerate() {
+            let (start, length) = (run.names[atom] as usize / 32, run.names[atom] as usize % 32);
+            let [name @ .., b'\t', letter] = line else { panic!("seed {seed}: line {atom}") };
+            assert_eq!(name, &sheet[start..start + length], "seed {seed}");
+            assert_eq!(*letter, truth::letter(values[atom]), "seed {seed}");
+            by_letter[values[atom] as usize] += 1;
+            // No name has two lines.
+            assert_eq!(found.insert(name, *letter), None, "seed {seed}");
+        }
+        // Every literal of the sheet finds its name, and every name found is one of the sheet's.
+        let literals: std::collections::BTreeSet<&[u8]> = literal_names(&sheet).collect();
+        assert!(literals.iter().all(|name| found.contains_key(name)), "seed {seed}");
+        assert_eq!(literals.len(), found.len(), "seed {seed}");
+        // One that heads no rule is u.
+        let (_, others) = random::heads_and_others(&sheet);
+        assert!(others.iter().all(|name| found[name.of(&sheet)] == b'u'), "seed {seed}");
+        lines_met += n;
+        others_met += others.len();
+        literals_met += literal_names(&sheet).count();
+    }
+    let met = (lines_met, by_letter, others_met, literals_met);
+    assert!(lines_met > 70_000 && by_letter.iter().all(|&count| count > 2_000), "{met:?}");
+    assert!(others_met > 40_000 && literals_met > 250_000, "{met:?}");
 }

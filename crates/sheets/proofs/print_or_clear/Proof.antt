@@ -5,11 +5,9 @@ use Rattle.sheets.proofs.print_or_clear.Tie as tie
 
 print-requires : tie.Need-print-requires
 print-requires c κs =
-    let entry = c .before .before .before .before .before .before .before .before in (
-      few-atoms (entry .args .sheet .now) _ _ (entry .args .n) (entry .args .w) (entry .args .words .now)
-          (entry .args .names .now) (entry .args .heads .now) (entry .pre .0),
-      names-inside (entry .args .sheet .now) _ _
-          (entry .args .n) (entry .args .w) (entry .args .words .now) (entry .args .names .now) (entry .args .heads .now) (entry .pre .0),
+    let entry = c .before .before .before .before .before .before .before in (
+      few-atoms (entry .args .sheet .now) _ _ (entry .args .n) (entry .args .w) (entry .args .words .now) (entry .args .names .now) (entry .pre .0),
+      names-inside (entry .args .sheet .now) _ _ (entry .args .n) (entry .args .w) (entry .args .words .now) (entry .args .names .now) (entry .pre .0),
     )
 
 enum-known-printed : tie.Need-enum-known-printed
@@ -32,11 +30,10 @@ same-length-2 c = search needs
 
 returns : tie.Need-returns
 returns c =
-    let entry = c .before .before .before .before .before .before .before .before .before .before .before .before .before .before in
+    let entry = c .before .before .before .before .before .before .before .before .before .before .before .before .before in
     let at-print = c .before .before .before .before .before .print in
-    prints (entry .args .sheet .now) _ _ (entry .args .n) (entry .args .w) (entry .args .words .now) (entry .args .names .now)
-    (entry .args .heads .now) (entry .pre .0) (entry .args .values .now) (entry .pre .1) (entry .args .text .now) _ _
-    (at-print .ensures .0) (at-print .ensures .1) _ (c .before .printed .given .1)
+    prints (entry .args .sheet .now) _ _ (entry .args .n) (entry .args .w) (entry .args .words .now) (entry .args .names .now) (entry .pre .0)
+    (entry .args .values .now) (entry .pre .1) (entry .args .text .now) _ _ (at-print .ensures .0) (at-print .ensures .1) _ (c .before .printed .given .1)
 
 same-length-3 : tie.Need-same-length-3
 same-length-3 c = search needs
@@ -49,14 +46,14 @@ same-length-5 c = search needs
 
 returns-2 : tie.Need-returns-2
 returns-2 c =
-    let entry = c .before .before .before .before .before .before .before .before .before .before .before
-    .before .before .before .before .before .before .before .before .before .before .before in
+    let entry = c .before .before .before .before .before .before .before .before .before .before .before .before .before .before .before .before .before
+    .before .before .before .before in
     let at-print = c .before .before .before .before .before .before .before .before .before .before .before .before .before .print in
     let at-printed2 = c .before .before .before .before .before .before .before .before .before .printed2 in
     let at-clear-words = c .before .before .before .before .before .before .clear-words in
-    prints-nothing (entry .args .sheet .now) _ _ (entry .args .n) (entry .args .w) (entry .args .words .now) (entry .args .names .now)
-    (entry .args .heads .now) (entry .pre .0) (entry .args .values .now) (entry .pre .1) (entry .args .text .now) _ _
-    (at-print .ensures .0) (at-print .ensures .1) _ _ _ (at-printed2 .given .1) (at-clear-words .ensures) (c .before .before .clear-names .ensures)
+    prints-nothing (entry .args .sheet .now) _ _ (entry .args .n) (entry .args .w) (entry .args .words .now) (entry .args .names .now) (entry .pre .0)
+    (entry .args .values .now) (entry .pre .1) (entry .args .text .now) _ _ (at-print .ensures .0) (at-print .ensures .1) _ _ _
+    (at-printed2 .given .1) (at-clear-words .ensures) (c .before .before .clear-names .ensures)
 
 pub print-or-clear-spec : {M : Type 1} → statement M
 print-or-clear-spec =

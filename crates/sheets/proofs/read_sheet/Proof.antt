@@ -3,25 +3,18 @@ use Rattle.sheets.proofs.Entry.{holds-there, refuses, allows-there}
 use Rattle.sheets.proofs.read_sheet.Statement.{statement}
 use Rattle.sheets.proofs.read_sheet.Tie as tie
 
-slice-aggregate-read-words : tie.Need-slice-aggregate-read-words
-slice-aggregate-read-words c = search needs
-
 read-words-requires : tie.Need-read-words-requires
 read-words-requires c κs = search needs
 
 enum-known-filled : tie.Need-enum-known-filled
 enum-known-filled c = search needs
 
-slice-aggregate-value-and-print : tie.Need-slice-aggregate-value-and-print
-slice-aggregate-value-and-print c = search needs
-
 value-and-print-requires : tie.Need-value-and-print-requires
 value-and-print-requires c κs =
-    let entry = c .before .before .before .before .before .before .before .before .before .before
-    .before .before .before .before .before .before .before .before .before .before in
-    let at-read-words = c .before .before .before .before .before .before .before .before .before .before .before .before .read-words in
-    let at-filled = c .before .before .before .before .before .filled in
-    holds-there (entry .args .sheet .now) _ _ _ _ _ _ (at-read-words .ensures) _ _
+    let entry = c .before .before .before .before .before .before .before .before .before .before .before .before .before .before .before .before .before in
+    let at-read-words = c .before .before .before .before .before .before .before .before .before .before .read-words in
+    let at-filled = c .before .before .before .before .filled in
+    holds-there (entry .args .sheet .now) _ _ _ _ _ (at-read-words .ensures) _ _
     (at-filled .given .1) (at-read-words .kept .1 .0) (at-read-words .kept .1 .1 .0)
 
 enum-known-filled-2 : tie.Need-enum-known-filled-2
@@ -38,10 +31,10 @@ same-length-3 c = search needs
 
 returns : tie.Need-returns
 returns c =
-    let entry = c .before .before .before .before .before .before .before .before .before .before .before .before .before
-    .before .before .before .before .before .before .before .before .before .before .before .before .before .before in
-    let at-read-words = c .before .before .before .before .before .before .before .before .before
-    .before .before .before .before .before .before .before .before .before .before .read-words in
+    let entry = c .before .before .before .before .before .before .before .before .before .before .before .before .before .before .before .before .before
+    .before .before .before .before .before .before .before in
+    let at-read-words =
+    c .before .before .before .before .before .before .before .before .before .before .before .before .before .before .before .before .before .read-words in
     let at-value-and-print = c .before .before .before .before .before .before .value-and-print in
     allows-there (entry .args .sheet .now) _ _ _ _ _ _ _ _ _ (at-read-words .kept .1 .0) (at-read-words .kept .1 .1 .0) (at-value-and-print .ensures)
 
@@ -53,18 +46,16 @@ same-length-5 c = search needs
 
 returns-2 : tie.Need-returns-2
 returns-2 c =
-    let entry = c .before .before .before .before .before .before .before .before .before .before .before .before .before .before .before .before in
-    let at-read-words = c .before .before .before .before .before .before .before .before .read-words in
-    refuses (entry .args .sheet .now) _ _ _ _ _ _ (at-read-words .ensures) _ _ (c .before .filled2 .given .1)
+    let entry = c .before .before .before .before .before .before .before .before .before .before .before .before .before .before in
+    let at-read-words = c .before .before .before .before .before .before .before .read-words in
+    refuses (entry .args .sheet .now) _ _ _ _ _ (at-read-words .ensures) _ _ (c .before .filled2 .given .1)
 
 pub read-sheet-spec : {M : Type 1} → statement M
 read-sheet-spec =
     tie.close
     (tie.spec
-    slice-aggregate-read-words
     read-words-requires
     enum-known-filled
-    slice-aggregate-value-and-print
     value-and-print-requires
     enum-known-filled-2
     same-length

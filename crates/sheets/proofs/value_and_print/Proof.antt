@@ -8,15 +8,15 @@ use Rattle.sheets.proofs.value_and_print.Tie as tie
 
 slice-reshare-prefix-evaluate : tie.Need-slice-reshare-prefix-evaluate
 slice-reshare-prefix-evaluate c =
-    let entry = c .before .before .before .before .before in
+    let entry = c .before .before .before .before in
     words-inside (entry .args .sheet .now) _ _
-    (entry .args .n) (entry .args .w) (entry .args .words .now) (entry .args .names .now) (entry .args .heads .now) (entry .pre)
+    (entry .args .n) (entry .args .w) (entry .args .words .now) (entry .args .names .now) (entry .pre)
 
 slice-aggregate-evaluate : tie.Need-slice-aggregate-evaluate
 slice-aggregate-evaluate c =
-    let entry = c .before .before .before .before .before .before in
+    let entry = c .before .before .before .before .before in
     sym (length-take-le (entry .args .w) (entry .args .words .now) (words-inside (entry .args .sheet .now) _ _
-    (entry .args .n) (entry .args .w) (entry .args .words .now) (entry .args .names .now) (entry .args .heads .now) (entry .pre)))
+    (entry .args .n) (entry .args .w) (entry .args .words .now) (entry .args .names .now) (entry .pre)))
 
 slice-aggregate-evaluate-2 : tie.Need-slice-aggregate-evaluate-2
 slice-aggregate-evaluate-2 c = search needs
@@ -32,12 +32,12 @@ slice-aggregate-print-or-clear c = search needs
 
 print-or-clear-requires : tie.Need-print-or-clear-requires
 print-or-clear-requires c κs =
-    let entry = c .before .before .before .before .before .before .before .before .before .before .before .before .before .before .before in
+    let entry = c .before .before .before .before .before .before .before .before .before .before .before .before .before .before in
     let at-evaluate = c .before .before .before .before .before .before .before .evaluate in
     let at-enum-told = c .before .before .before .before .enum-told in (
       entry .pre,
       valued (entry .args .sheet .now) _ _ (entry .args .n) (entry .args .w) (entry .args .words .now)
-          (entry .args .names .now) (entry .args .heads .now) (entry .pre) _ _ _ (at-evaluate .ensures) (at-enum-told .given .1),
+          (entry .args .names .now) (entry .pre) _ _ _ (at-evaluate .ensures) (at-enum-told .given .1),
     )
 
 enum-known-answer : tie.Need-enum-known-answer
@@ -69,12 +69,12 @@ same-length-5 c = search needs
 
 returns-2 : tie.Need-returns-2
 returns-2 c =
-    let entry = c .before .before .before .before .before .before .before .before .before .before
-    .before .before .before .before .before .before .before .before .before .before in
+    let entry =
+    c .before .before .before .before .before .before .before .before .before .before .before .before .before .before .before .before .before .before .before in
     let at-evaluate = c .before .before .before .before .before .before .before .before .before .before .before .before .evaluate in
     let at-answer = c .before .before .before .before .before .before .before .before .before .answer in
     absurd (never-refuses (entry .args .sheet .now) _ _ (entry .args .n) (entry .args .w) (entry .args .words .now)
-    (entry .args .names .now) (entry .args .heads .now) (entry .pre) _ _ _ _ (omega arith) (at-evaluate .ensures) (at-answer .given .1))
+    (entry .args .names .now) (entry .pre) _ _ _ _ (omega arith) (at-evaluate .ensures) (at-answer .given .1))
 
 pub value-and-print-spec : {M : Type 1} → statement M
 value-and-print-spec =

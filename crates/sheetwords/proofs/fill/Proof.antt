@@ -12,7 +12,7 @@ use Rattle.sheetwords.proofs.fill.Tie as tie
 abbrev Inv-loop : tie.InvT-loop
 Inv-loop sheet words₀ names₀ heads₀ counts₀ place₀ words names heads counts place =
     Filling sheet (sheetFrom (length sheet + 1) sheet 0 nothing) place counts words names heads
-    × (length words ≡ length words₀) × (length names ≡ length names₀) × (length heads ≡ length heads₀)
+    × (length words ≡ length words₀) × (length names ≡ length names₀)
 
 abbrev μ-loop : tie.MeasureT-loop
 μ-loop sheet words₀ names₀ heads₀ counts₀ place₀ words names heads counts place =
@@ -20,10 +20,9 @@ abbrev μ-loop : tie.MeasureT-loop
 
 loop-holds : tie.Need-loop-holds Inv-loop μ-loop
 loop-holds c =
-    let entry = c .before .before .before .before in (
-      starts (entry .args .sheet .now) _ (entry .args .words .now) (entry .args .names .now) (entry .args .heads .now) refl
-          (entry .pre .0) (entry .pre .1 .0) (entry .pre .1 .1 .0) (entry .pre .1 .1 .1 .0) (entry .pre .1 .1 .1 .1),
-      refl,
+    let entry = c .before .before .before in (
+      starts (entry .args .sheet .now) _ (entry .args .words .now) (entry .args .names .now) _ refl
+          (entry .pre .0) (entry .pre .1 .0) (entry .pre .1 .1 .0) (entry .pre .1 .1 .1) refl,
       refl,
       refl,
     )
@@ -42,13 +41,9 @@ same-length-2 : tie.Need-same-length-2 Inv-loop μ-loop
 same-length-2 c =
     c .before .before .before .loop .inv .2
 
-same-length-3 : tie.Need-same-length-3 Inv-loop μ-loop
-same-length-3 c =
-    c .before .before .before .loop .inv .3
-
 returns : tie.Need-returns Inv-loop μ-loop
 returns c =
-    let entry = c .before .before .before .before .before .before .before .before in
+    let entry = c .before .before .before .before .before .before .before in
     let at-loop = c .before .before .before .loop in
     ends (entry .args .sheet .now) _ (at-loop .place) (at-loop .counts) (at-loop .words) (at-loop .names) (at-loop .heads) (at-loop .inv .0) _
     (c .before .before .next-at .ensures) (c .enum-told .given .1)
@@ -56,21 +51,17 @@ returns c =
 enum-known-reading : tie.Need-enum-known-reading Inv-loop μ-loop
 enum-known-reading c = search needs
 
-same-length-4 : tie.Need-same-length-4 Inv-loop μ-loop
-same-length-4 c =
+same-length-3 : tie.Need-same-length-3 Inv-loop μ-loop
+same-length-3 c =
     c .before .before .before .before .loop .inv .1
 
-same-length-5 : tie.Need-same-length-5 Inv-loop μ-loop
-same-length-5 c =
+same-length-4 : tie.Need-same-length-4 Inv-loop μ-loop
+same-length-4 c =
     c .before .before .before .before .loop .inv .2
-
-same-length-6 : tie.Need-same-length-6 Inv-loop μ-loop
-same-length-6 c =
-    c .before .before .before .before .loop .inv .3
 
 returns-2 : tie.Need-returns-2 Inv-loop μ-loop
 returns-2 c =
-    let entry = c .before .before .before .before .before .before .before .before .before in
+    let entry = c .before .before .before .before .before .before .before .before in
     let at-loop = c .before .before .before .before .loop in
     stops (entry .args .sheet .now) _ (at-loop .place) (at-loop .counts) (at-loop .words) (at-loop .names) (at-loop .heads) (at-loop .inv .0) _
     (c .before .before .before .next-at .ensures) _ (c .before .reading .given .1)
@@ -78,9 +69,12 @@ returns-2 c =
 enum-known-reading-2 : tie.Need-enum-known-reading-2 Inv-loop μ-loop
 enum-known-reading-2 c = search needs
 
+slice-aggregate-take-literal : tie.Need-slice-aggregate-take-literal Inv-loop μ-loop
+slice-aggregate-take-literal c = search needs
+
 take-literal-requires : tie.Need-take-literal-requires Inv-loop μ-loop
 take-literal-requires c κs =
-    let entry = c .before .before .before .before .before .before .before .before .before .before .before .before in
+    let entry = c .before .before .before .before .before .before .before .before .before .before .before in
     let at-loop = c .before .before .before .before .before .before .before .loop in
     let at-next-at = c .before .before .before .before .before .before .next-at in
     let at-reading2 = c .before .before .before .before .reading2 in
@@ -92,68 +86,60 @@ enum-known-taken c = search needs
 enum-known-taken-2 : tie.Need-enum-known-taken-2 Inv-loop μ-loop
 enum-known-taken-2 c = search needs
 
-same-length-7 : tie.Need-same-length-7 Inv-loop μ-loop
-same-length-7 c =
+same-length-5 : tie.Need-same-length-5 Inv-loop μ-loop
+same-length-5 c =
     let at-loop =
-    c .before .before .before .before .before .before .before .before .before .before .before .before .before .before .before .before .before .loop in
-    let at-take-literal = c .before .before .before .before .before .before .before .before .before .take-literal in
+    c .before .before .before .before .before .before .before .before .before .before .before .before .before .before .before .before .loop in
+    let at-take-literal = c .before .before .before .before .before .before .before .before .take-literal in
     at-take-literal .kept .1 .0 ∙ at-loop .inv .1
 
-same-length-8 : tie.Need-same-length-8 Inv-loop μ-loop
-same-length-8 c =
+same-length-6 : tie.Need-same-length-6 Inv-loop μ-loop
+same-length-6 c =
     let at-loop =
-    c .before .before .before .before .before .before .before .before .before .before .before .before .before .before .before .before .before .loop in
-    let at-take-literal = c .before .before .before .before .before .before .before .before .before .take-literal in
+    c .before .before .before .before .before .before .before .before .before .before .before .before .before .before .before .before .loop in
+    let at-take-literal = c .before .before .before .before .before .before .before .before .take-literal in
     at-take-literal .kept .1 .1 .0 ∙ at-loop .inv .2
-
-same-length-9 : tie.Need-same-length-9 Inv-loop μ-loop
-same-length-9 c =
-    let at-loop =
-    c .before .before .before .before .before .before .before .before .before .before .before .before .before .before .before .before .before .loop in
-    let at-take-literal = c .before .before .before .before .before .before .before .before .before .take-literal in
-    at-take-literal .kept .1 .1 .1 .0 ∙ at-loop .inv .3
 
 returns-3 : tie.Need-returns-3 Inv-loop μ-loop
 returns-3 c =
-    let entry = c .before .before .before .before .before .before .before .before .before .before .before
-    .before .before .before .before .before .before .before .before .before .before .before in
+    let entry = c .before .before .before .before .before .before .before .before .before .before .before .before .before .before .before .before .before
+    .before .before .before in
     let at-loop =
-    c .before .before .before .before .before .before .before .before .before .before .before .before .before .before .before .before .before .loop in
+    c .before .before .before .before .before .before .before .before .before .before .before .before .before .before .before .before .loop in
     let at-next-at =
-    c .before .before .before .before .before .before .before .before .before .before .before .before .before .before .before .before .next-at in
-    let at-reading2 = c .before .before .before .before .before .before .before .before .before .before .before .before .before .before .reading2 in
-    let at-take-literal = c .before .before .before .before .before .before .before .before .before .take-literal in
+    c .before .before .before .before .before .before .before .before .before .before .before .before .before .before .before .next-at in
+    let at-reading2 = c .before .before .before .before .before .before .before .before .before .before .before .before .before .reading2 in
+    let at-take-literal = c .before .before .before .before .before .before .before .before .take-literal in
     faults (entry .args .sheet .now) _ (at-loop .place) (at-loop .counts) (at-loop .words) (at-loop .names) (at-loop .heads) (at-loop .inv .0) _
     (at-next-at .ensures) _ (at-reading2 .given .1) _ _ _ _ (at-take-literal .ensures) _ (c .before .taken2 .given .1)
 
 loop-less : tie.Need-loop-less Inv-loop μ-loop
 loop-less c =
-    let entry = c .before .before .before .before .before .before .before .before .before .before .before
-    .before .before .before .before .before .before .before .before .before .before .before in
+    let entry = c .before .before .before .before .before .before .before .before .before .before .before .before .before .before .before .before .before
+    .before .before .before in
     let at-loop =
-    c .before .before .before .before .before .before .before .before .before .before .before .before .before .before .before .before .before .loop in
+    c .before .before .before .before .before .before .before .before .before .before .before .before .before .before .before .before .loop in
     let at-next-at =
-    c .before .before .before .before .before .before .before .before .before .before .before .before .before .before .before .before .next-at in
-    let at-reading2 = c .before .before .before .before .before .before .before .before .before .before .before .before .before .before .reading2 in
-    let at-take-literal = c .before .before .before .before .before .before .before .before .before .take-literal in
+    c .before .before .before .before .before .before .before .before .before .before .before .before .before .before .before .next-at in
+    let at-reading2 = c .before .before .before .before .before .before .before .before .before .before .before .before .before .reading2 in
+    let at-take-literal = c .before .before .before .before .before .before .before .before .take-literal in
     falls (entry .args .sheet .now) _ (at-loop .place) (at-loop .counts) (at-loop .words) (at-loop .names) (at-loop .heads) (at-loop .inv .0) _
     (at-next-at .ensures) _ (at-reading2 .given .1) _ _ _ _ (at-take-literal .ensures)
 
 loop-again : tie.Need-loop-again Inv-loop μ-loop
 loop-again c =
-    let entry = c .before .before .before .before .before .before .before .before .before .before .before
-    .before .before .before .before .before .before .before .before .before .before .before in
+    let entry = c .before .before .before .before .before .before .before .before .before .before .before .before .before .before .before .before .before
+    .before .before .before in
     let at-loop =
-    c .before .before .before .before .before .before .before .before .before .before .before .before .before .before .before .before .before .loop in
+    c .before .before .before .before .before .before .before .before .before .before .before .before .before .before .before .before .loop in
     let at-next-at =
-    c .before .before .before .before .before .before .before .before .before .before .before .before .before .before .before .before .next-at in
-    let at-reading2 = c .before .before .before .before .before .before .before .before .before .before .before .before .before .before .reading2 in
-    let at-take-literal = c .before .before .before .before .before .before .before .before .before .take-literal in (
+    c .before .before .before .before .before .before .before .before .before .before .before .before .before .before .before .next-at in
+    let at-reading2 = c .before .before .before .before .before .before .before .before .before .before .before .before .before .reading2 in
+    let at-take-literal = c .before .before .before .before .before .before .before .before .take-literal in (
       goes-on (entry .args .sheet .now) _ (at-loop .place) (at-loop .counts) (at-loop .words) (at-loop .names) (at-loop .heads) (at-loop .inv .0) _
           (at-next-at .ensures) _ (at-reading2 .given .1) _ _ _ _ (at-take-literal .ensures) _ (c .before .taken .given .1),
       at-take-literal .kept .1 .0 ∙ at-loop .inv .1,
       at-take-literal .kept .1 .1 .0 ∙ at-loop .inv .2,
-      at-take-literal .kept .1 .1 .1 .0 ∙ at-loop .inv .3,
     )
 
 pub fill-spec : {M : Type 1} → statement M
@@ -167,20 +153,18 @@ fill-spec =
     enum-told
     same-length
     same-length-2
-    same-length-3
     returns
     enum-known-reading
+    same-length-3
     same-length-4
-    same-length-5
-    same-length-6
     returns-2
     enum-known-reading-2
+    slice-aggregate-take-literal
     take-literal-requires
     enum-known-taken
     enum-known-taken-2
-    same-length-7
-    same-length-8
-    same-length-9
+    same-length-5
+    same-length-6
     returns-3
     loop-less
     loop-again)

@@ -2,7 +2,6 @@ use borrow.Author.Needs.{needs}
 use mathlib.Core.Path.{ap, _∙_}
 use Prim.Native.Nat.{ℕ}
 use mathlib.Core.List.{[]}
-use lib.ListN.{length}
 use Rattle.buffers.specs.Padded.{padded}
 use Rattle.sheetwords.proofs.Turns.{filled-stays, nothing-stays}
 use Rattle.sheetwords.proofs.fill_or_clear.Statement.{statement}
@@ -23,45 +22,32 @@ clear-words-requires c κs = search needs
 clear-names-requires : tie.Need-clear-names-requires
 clear-names-requires c κs = search needs
 
-clear-heads-requires : tie.Need-clear-heads-requires
-clear-heads-requires c κs = search needs
-
 same-length : tie.Need-same-length
 same-length c = search needs
 
 same-length-2 : tie.Need-same-length-2
 same-length-2 c = search needs
 
-same-length-3 : tie.Need-same-length-3
-same-length-3 c = search needs
-
 returns : tie.Need-returns
 returns c =
-    let at-fill = c .before .before .before .before .before .before .before .before .before .fill in
-    filled-stays _ _ _ _ _ _ _ _ _ (at-fill .ensures) (c .before .filled .given .1) (at-fill .kept .1 .0) (at-fill .kept .1 .1 .0)
+    let at-fill = c .before .before .before .before .before .before .before .fill in
+    filled-stays _ _ _ _ _ _ _ _ (at-fill .ensures) (c .before .filled .given .1) (at-fill .kept .1 .0) (at-fill .kept .1 .1 .0)
+
+same-length-3 : tie.Need-same-length-3
+same-length-3 c = search needs
 
 same-length-4 : tie.Need-same-length-4
 same-length-4 c = search needs
 
-same-length-5 : tie.Need-same-length-5
-same-length-5 c = search needs
-
-same-length-6 : tie.Need-same-length-6
-same-length-6 c = search needs
-
 returns-2 : tie.Need-returns-2
 returns-2 c =
-    let entry = c .before .before .before .before .before .before .before .before .before .before .before .before .before .before
-    .before .before .before .before .before .before .before .before .before .before .before .before .before .before .before in
-    let at-fill = c .before .before .before .before .before .before .before .before .before .before
-    .before .before .before .before .before .before .before .before .before .before .before .fill in
-    let at-filled2 = c .before .before .before .before .before .before .before .before .before .before .before .before .before .filled2 in
-    let at-clear-words = c .before .before .before .before .before .before .before .before .before .before .clear-words in
-    let at-clear-names = c .before .before .before .before .before .before .clear-names in
-    nothing-stays _ _ _ _ _ _ _ _ _ _ _
+    let at-fill = c .before .before .before .before .before .before .before .before .before .before .before .before .before .before .before .fill in
+    let at-filled2 = c .before .before .before .before .before .before .before .before .before .filled2 in
+    let at-clear-words = c .before .before .before .before .before .before .clear-words in
+    let at-clear-names = c .before .before .clear-names in
+    nothing-stays _ _ _ _ _ _ _ _ _
     (at-fill .ensures) (at-filled2 .given .1) (at-clear-words .ensures ∙ ap (λ (n : ℕ). padded n []) (at-fill .kept .1 .0))
     (at-clear-names .ensures ∙ ap (λ (n : ℕ). padded n []) (at-fill .kept .1 .1 .0))
-    (c .before .before .clear-heads .ensures ∙ ap (λ (n : ℕ). padded n []) (at-fill .kept .1 .1 .1 .0 ∙ ap length (entry .pre .1 .1 .1 .1)))
 
 pub fill-or-clear-spec : {M : Type 1} → statement M
 fill-or-clear-spec =
@@ -72,12 +58,9 @@ fill-or-clear-spec =
     enum-known-filled-2
     clear-words-requires
     clear-names-requires
-    clear-heads-requires
     same-length
     same-length-2
-    same-length-3
     returns
+    same-length-3
     same-length-4
-    same-length-5
-    same-length-6
     returns-2)

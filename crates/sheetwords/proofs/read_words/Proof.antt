@@ -25,11 +25,11 @@ same-length-2 c = search needs
 
 returns : tie.Need-returns
 returns c =
-    let entry = c .before .before .before .before .before .before .before .before .before .before .before .before .before .before in
+    let entry = c .before .before .before .before .before .before .before .before .before .before .before .before .before in
     let at-clear-words = c .before .before .before .before .before .before .before .before .clear-words in
     let at-clear-names = c .before .before .before .before .clear-names in
     rw (c .at .ensures)
-    (long-sheet (entry .args .sheet .now) _ _ _ _ _ (c .before .if1 .taken) (at-clear-words .ensures) (at-clear-names .ensures) (entry .pre))
+    (long-sheet (entry .args .sheet .now) _ _ _ _ (c .before .if1 .taken) (at-clear-words .ensures) (at-clear-names .ensures))
 
 at-requires-2 : tie.Need-at-requires-2
 at-requires-2 c κs = search needs
@@ -42,11 +42,11 @@ same-length-4 c = search needs
 
 returns-2 : tie.Need-returns-2
 returns-2 c =
-    let entry = c .before .before .before .before .before .before .before .before .before .before .before .before .before .before .before in
+    let entry = c .before .before .before .before .before .before .before .before .before .before .before .before .before .before in
     let at-clear-words = c .before .before .before .before .before .before .before .before .before .clear-words in
     let at-clear-names = c .before .before .before .before .before .clear-names in
-    rw (c .at2 .ensures) (short-words (entry .args .sheet .now) _ _ _ _ _ (c .before .before .if1 .left)
-    (omega (arith, c .before .if2 .taken, at-clear-words .kept .0)) (at-clear-words .ensures) (at-clear-names .ensures) (entry .pre))
+    rw (c .at2 .ensures) (short-words (entry .args .sheet .now) _ _ _ _ (c .before .before .if1 .left)
+    (omega (arith, c .before .if2 .taken, at-clear-words .kept .0)) (at-clear-words .ensures) (at-clear-names .ensures))
 
 at-requires-3 : tie.Need-at-requires-3
 at-requires-3 c κs = search needs
@@ -59,25 +59,23 @@ same-length-6 c = search needs
 
 returns-3 : tie.Need-returns-3
 returns-3 c =
-    let entry = c .before .before .before .before .before .before .before .before .before .before .before .before .before .before .before .before in
+    let entry = c .before .before .before .before .before .before .before .before .before .before .before .before .before .before .before in
     let at-clear-words = c .before .before .before .before .before .before .before .before .before .before .clear-words in
     let at-clear-names = c .before .before .before .before .before .before .clear-names in
-    rw (c .at3 .ensures) (short-names (entry .args .sheet .now) _ _ _ _ _ (c .before .before .before .if1 .left)
-    (omega (arith, c .before .if3 .taken, at-clear-names .kept .0)) (at-clear-words .ensures) (at-clear-names .ensures) (entry .pre))
+    rw (c .at3 .ensures) (short-names (entry .args .sheet .now) _ _ _ _ (c .before .before .before .if1 .left)
+    (omega (arith, c .before .if3 .taken, at-clear-names .kept .0)) (at-clear-words .ensures) (at-clear-names .ensures))
 
 fill-or-clear-requires : tie.Need-fill-or-clear-requires
 fill-or-clear-requires c κs =
-    let entry =
-    c .before .before .before .before .before .before .before .before .before .before .before .before .before .before .before .before .before .before in
-    let at-clear-words = c .before .before .before .before .before .before .before .before .before .before .before .before .clear-words in
-    let at-clear-names = c .before .before .before .before .before .before .before .before .clear-names in
-    let at-if2 = c .before .before .before .before .if2 in (
+    let at-clear-words = c .before .before .before .before .before .before .before .before .before .before .before .clear-words in
+    let at-clear-names = c .before .before .before .before .before .before .before .clear-names in
+    let at-if2 = c .before .before .before .if2 in (
       at-if2 .left,
       (
-        c .before .before .before .if3 .left,
+        c .before .before .if3 .left,
         (
           at-clear-words .ensures ∙ ap (λ (n : ℕ). padded n []) (sym (at-clear-words .kept .0)),
-          (at-clear-names .ensures ∙ ap (λ (n : ℕ). padded n []) (sym (at-clear-names .kept .0)), entry .pre),
+          at-clear-names .ensures ∙ ap (λ (n : ℕ). padded n []) (sym (at-clear-names .kept .0)),
         ),
       ),
     )
@@ -88,22 +86,19 @@ same-length-7 c = search needs
 same-length-8 : tie.Need-same-length-8
 same-length-8 c = search needs
 
-same-length-9 : tie.Need-same-length-9
-same-length-9 c = search needs
-
 returns-4 : tie.Need-returns-4
 returns-4 c =
-    let entry = c .before .before .before .before .before .before .before .before .before .before .before .before
-    .before .before .before .before .before .before .before .before .before .before .before .before .before in
-    let at-clear-words = c .before .before .before .before .before .before .before .before .before
-    .before .before .before .before .before .before .before .before .before .before .clear-words in
+    let entry = c .before .before .before .before .before .before .before .before .before .before .before .before .before .before .before .before .before
+    .before .before .before .before in
+    let at-clear-words =
+    c .before .before .before .before .before .before .before .before .before .before .before .before .before .before .before .before .clear-words in
     let at-clear-names =
-    c .before .before .before .before .before .before .before .before .before .before .before .before .before .before .before .clear-names in
-    let at-if1 = c .before .before .before .before .before .before .before .before .before .before .before .before .if1 in
-    let at-if2 = c .before .before .before .before .before .before .before .before .before .before .before .if2 in
-    let at-if3 = c .before .before .before .before .before .before .before .before .before .before .if3 in
-    let at-fill-or-clear = c .before .before .before .before .before .before .fill-or-clear in
-    read-on (entry .args .sheet .now) _ _ _ _ _ _ _ _
+    c .before .before .before .before .before .before .before .before .before .before .before .before .clear-names in
+    let at-if1 = c .before .before .before .before .before .before .before .before .before .if1 in
+    let at-if2 = c .before .before .before .before .before .before .before .before .if2 in
+    let at-if3 = c .before .before .before .before .before .before .before .if3 in
+    let at-fill-or-clear = c .before .before .before .before .fill-or-clear in
+    read-on (entry .args .sheet .now) _ _ _ _ _ _ _
     (at-clear-words .kept .0) (at-clear-names .kept .0) (at-if1 .left) (at-if2 .left) (at-if3 .left) (at-fill-or-clear .ensures)
 
 pub read-words-spec : {M : Type 1} → statement M
@@ -127,5 +122,4 @@ read-words-spec =
     fill-or-clear-requires
     same-length-7
     same-length-8
-    same-length-9
     returns-4)

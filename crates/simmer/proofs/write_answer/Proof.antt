@@ -1,5 +1,5 @@
 use borrow.Author.Needs.{needs}
-use Rattle.sheets.proofs.Laws.{accepted-fits}
+use Rattle.sheets.proofs.Laws.{accepted-leaves, accepted-fits}
 use Rattle.simmer.proofs.Counted.{counted}
 use Rattle.simmer.proofs.write_answer.Statement.{statement}
 use Rattle.simmer.proofs.write_answer.Tie as tie
@@ -22,13 +22,14 @@ enum-known-c c = search needs
 array-share-prefix-text : tie.Need-array-share-prefix-text
 array-share-prefix-text c =
     let at-read-sheet = c .before .before .before .before .before .before .read-sheet in
-    accepted-fits _ _ _ _ (at-read-sheet .ensures) (c .before .c .given .0 .0) (c .before .c .given .1)
+    accepted-fits _ _ _ _ _ _ _ (accepted-leaves _ _ _ _ (at-read-sheet .ensures) (c .before .c .given .0 .0) (c .before .c .given .1))
 
 slice-aggregate-write-all : tie.Need-slice-aggregate-write-all
 slice-aggregate-write-all c =
     let call = c .before .before .before .before .before .before .before in
     let known = c .before .before .c .given in
-    counted (known .0 .0 .bytes) (call .read-sheet .last .1 .1 .1 .0) (accepted-fits _ _ _ _ (call .read-sheet .ensures) (known .0 .0) (known .1)) .1
+    counted (known .0 .0 .bytes) (call .read-sheet .last .1 .1 .1 .0)
+    (accepted-fits _ _ _ _ _ _ _ (accepted-leaves _ _ _ _ (call .read-sheet .ensures) (known .0 .0) (known .1))) .1
 
 write-all-requires : tie.Need-write-all-requires
 write-all-requires c κs = search needs

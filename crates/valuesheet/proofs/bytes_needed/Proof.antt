@@ -4,26 +4,22 @@ use Prim.Native.Nat.{_+_, _-_, _*_, _≤_}
 use native.Mathlib.Nat.{zero-add}
 use native.Mathlib.Omega.{arith}
 use lib.ListN.{take, drop}
-use Rattle.bits.specs.Sets.{member}
-use Rattle.valuesheet.specs.Fitting.{bytesFrom}
+use Rattle.valuesheet.specs.Fitting.{bytesFor}
 use Rattle.valuesheet.proofs.Printing.{bytes-turn, no-bytes}
 use Rattle.valuesheet.proofs.bytes_needed.Statement.{statement}
 use Rattle.valuesheet.proofs.bytes_needed.Tie as tie
 
 abbrev Inv-loop : tie.InvT-loop
-Inv-loop names n heads total₀ a₀ total a =
-    (a ≤ n) × (total ≤ 34 * a) × (total + bytesFrom (member heads) a (drop a (take n names)) ≡ bytesFrom (member heads) 0 (take n names))
+Inv-loop names n total₀ a₀ total a =
+    (a ≤ n) × (total ≤ 34 * a) × (total + bytesFor (drop a (take n names)) ≡ bytesFor (take n names))
 
 abbrev μ-loop : tie.MeasureT-loop
-μ-loop names n heads total₀ a₀ total a =
+μ-loop names n total₀ a₀ total a =
     n - a
 
 loop-holds : tie.Need-loop-holds Inv-loop μ-loop
 loop-holds c =
     (omega arith, omega arith, zero-add _)
-
-has-line-requires : tie.Need-has-line-requires Inv-loop μ-loop
-has-line-requires c κs = search needs
 
 entry-requires : tie.Need-entry-requires Inv-loop μ-loop
 entry-requires c κs = search needs
@@ -42,21 +38,21 @@ loop-less c = search needs
 
 loop-again : tie.Need-loop-again Inv-loop μ-loop
 loop-again c =
-    let entry = c .before .before .before .before .before .before .before in
-    let at-loop = c .before .before .before .before .loop in (
+    let entry = c .before .before .before .before .before in
+    let at-loop = c .before .before .before .loop in (
       omega arith,
       omega (arith, c .line-bytes .ensures .1),
-      bytes-turn _ (entry .args .names .now) (entry .args .n) (at-loop .a) (entry .pre .1) (c .before .before .before .loop-test .taken) _ _
-          (c .before .before .has-line .ensures) (c .before .entry .ensures .0) (at-loop .total) _ _ (c .line-bytes .ensures .0) (at-loop .inv .2),
+      bytes-turn (entry .args .names .now) (entry .args .n) (at-loop .a) (entry .pre .1) (c .before .before .loop-test .taken) _
+          (c .before .entry .ensures .0) (at-loop .total) _ _ (c .line-bytes .ensures .0) (at-loop .inv .2),
     )
 
 returns : tie.Need-returns Inv-loop μ-loop
 returns c =
-    let entry = c .before .before .before .before in
+    let entry = c .before .before .before in
     omega (
       arith,
       c .before .loop .inv .2,
-      no-bytes (member (entry .args .heads .now)) (entry .args .names .now) (entry .args .n) (c .before .loop .a) (entry .pre .1) (c .loop-test .left),
+      no-bytes (entry .args .names .now) (entry .args .n) (c .before .loop .a) (entry .pre .1) (c .loop-test .left),
     )
 
 pub bytes-needed-spec : {M : Type 1} → statement M
@@ -66,7 +62,6 @@ bytes-needed-spec =
     Inv-loop
     μ-loop
     loop-holds
-    has-line-requires
     entry-requires
     line-bytes-requires
     add-total

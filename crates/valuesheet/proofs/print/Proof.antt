@@ -1,7 +1,7 @@
 use borrow.Author.Needs.{needs}
 use mathlib.Core.Path.{sym, _∙_}
+use Prim.Native.Nat.{ℕ}
 use lib.ListN.{getD, take}
-use Rattle.bits.specs.Sets.{member}
 use Rattle.valuesheet.specs.ValueSheet.{valueSheet}
 use Rattle.valuesheet.proofs.Printing.{lines-length, does-not-fit, fits-whole}
 use Rattle.valuesheet.proofs.print.Statement.{statement}
@@ -15,12 +15,12 @@ at-requires c κs = search needs
 
 returns : tie.Need-returns
 returns c =
-    let entry = c .before .before .before .before .before .before .before .before in
-    let out = valueSheet (entry .args .sheet .now) (member (entry .args .heads .now))
-    (λ x. getD (entry .args .values .now) x 0) (take (entry .args .n) (entry .args .names .now)) in
-    rw (c .at .ensures) (does-not-fit out _ _ (c .before .before .bytes-needed .ensures
-    ∙ sym (lines-length (entry .args .sheet .now) (member (entry .args .heads .now)) (λ x. getD (entry .args .values .now) x 0) 0
-    (take (entry .args .n) (entry .args .names .now)))) (c .before .if1 .taken))
+    let entry = c .before .before .before .before .before .before .before in
+    let names = take (entry .args .n) (entry .args .names .now) in
+    let values : ℕ → ℕ = λ x. getD (entry .args .values .now) x 0 in
+    let out = valueSheet (entry .args .sheet .now) values names in
+    rw (c .at .ensures) (does-not-fit out _ _
+    (c .before .before .bytes-needed .ensures ∙ sym (lines-length (entry .args .sheet .now) values 0 names)) (c .before .if1 .taken))
 
 put-lines-requires : tie.Need-put-lines-requires
 put-lines-requires c κs = search needs
@@ -30,14 +30,14 @@ same-length c = search needs
 
 returns-2 : tie.Need-returns-2
 returns-2 c =
-    let entry = c .before .before .before .before .before .before .before .before .before .before .before in
+    let entry = c .before .before .before .before .before .before .before .before .before .before in
     let at-bytes-needed = c .before .before .before .before .before .bytes-needed in
     let at-if1 = c .before .before .before .before .if1 in
-    let out = valueSheet (entry .args .sheet .now) (member (entry .args .heads .now))
-    (λ x. getD (entry .args .values .now) x 0) (take (entry .args .n) (entry .args .names .now)) in
+    let names = take (entry .args .n) (entry .args .names .now) in
+    let values : ℕ → ℕ = λ x. getD (entry .args .values .now) x 0 in
+    let out = valueSheet (entry .args .sheet .now) values names in
     fits-whole out _ _ _
-    (at-bytes-needed .ensures ∙ sym (lines-length (entry .args .sheet .now) (member (entry .args .heads .now)) (λ x. getD (entry .args .values .now) x 0) 0
-    (take (entry .args .n) (entry .args .names .now)))) (at-if1 .left) (c .before .before .put-lines .ensures)
+    (at-bytes-needed .ensures ∙ sym (lines-length (entry .args .sheet .now) values 0 names)) (at-if1 .left) (c .before .before .put-lines .ensures)
 
 pub print-spec : {M : Type 1} → statement M
 print-spec =

@@ -1,6 +1,6 @@
 //! Rooms and buffers that a caller lends, always filled with bytes of chance, and entries as bytes.
 
-use crate::random::Chance;
+use crate::random::{Chance, heads_and_others, lines_length};
 
 /// A value room for N atoms, filled with bytes of chance: mostly N or a little more, sometimes less.
 pub fn value_room(chance: &mut Chance, n: u64) -> Vec<u8> {
@@ -27,12 +27,17 @@ pub fn name_buffer(chance: &mut Chance) -> Vec<u32> {
     (0..length).map(|_| chance.number() as u32).collect()
 }
 
-/// A text room for a value sheet of so many bytes: too small once in six times.
-pub fn text_room(chance: &mut Chance, needed: usize) -> Vec<u8> {
-    let length = match chance.below(6) {
+/// A text room for the value sheet of a sheet: too small about once in four times, then mostly with room for the lines of the heads
+/// alone. For a sheet that is refused, a small one.
+pub fn text_room(chance: &mut Chance, sheet: &[u8]) -> Vec<u8> {
+    let (heads, others) = heads_and_others(sheet);
+    let heads = lines_length(&heads);
+    let needed = heads + lines_length(&others);
+    let length = match chance.below(7) {
         0 => chance.index(needed + 1),
-        1 => needed,
-        2 => needed + 1,
+        1 => heads + chance.index(needed - heads + 1),
+        2 => needed,
+        3 => needed + 1,
         _ => needed + chance.index(100),
     };
     chance.bytes(length)

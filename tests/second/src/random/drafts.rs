@@ -93,6 +93,16 @@ pub(super) fn draft_literal(chance: &mut Chance, names: usize) -> DraftLiteral {
     }
 }
 
+/// How many of the names may head a rule: all, a part, or one; the others stand only in bodies, if at all.
+fn heading(chance: &mut Chance, names: usize) -> usize {
+    match chance.below(8) {
+        0 | 1 => names,
+        2 => 1,
+        3..=5 => names.div_ceil(2),
+        _ => chance.between(1, names as u64) as usize,
+    }
+}
+
 /// An accepted draft, within all limits: mostly small; sometimes with many names, or with bodies and groups near 64.
 pub fn draft(chance: &mut Chance) -> Draft {
     let (most_names, most_lines, most_groups, most_literals) = match chance.below(12) {
@@ -104,11 +114,12 @@ pub fn draft(chance: &mut Chance) -> Draft {
     };
     let count = chance.between(1, most_names) as usize;
     let names = names(chance, count);
+    let heading = heading(chance, count);
     let mut draft = Draft { names, lines: Vec::new() };
     let mut heads = BTreeSet::new();
     let (mut bytes, mut words) = (0, 0);
     for _ in 0..chance.below(most_lines + 1) {
-        let head = draft_literal(chance, count);
+        let head = draft_literal(chance, heading);
         if !heads.insert((head.name, head.negated)) {
             continue;
         }

@@ -1,8 +1,12 @@
 //! Rule sheets damaged in each numbered way, sheets of any kind, and places in them.
 
+use std::collections::BTreeSet;
+
 use crate::random::drafts::draft_literal;
 use crate::random::*;
 use crate::refusal::*;
+use crate::sheet::{Name, contents};
+use crate::table::atom_of;
 
 /// The ways in which `damaged_sheet` damages a sheet.
 #[derive(Clone, Copy, Debug, PartialEq, Eq)]
@@ -216,6 +220,20 @@ pub fn any_sheet(chance: &mut Chance) -> Vec<u8> {
             chance.bytes(length)
         }
     }
+}
+
+/// The names of a sheet that head a rule in either sign, and those that stand only in bodies; none of a sheet that is refused.
+pub fn heads_and_others(sheet: &[u8]) -> (Vec<Name>, Vec<Name>) {
+    let Ok(contents) = contents(sheet) else { return (Vec::new(), Vec::new()) };
+    let headed: BTreeSet<usize> = contents.rules.iter().map(|rule| atom_of(rule.head)).collect();
+    let (heads, others): (Vec<_>, Vec<_>) = contents.names.into_iter().enumerate().partition(|(atom, _)| headed.contains(atom));
+    let names = |numbered: Vec<(usize, Name)>| numbered.into_iter().map(|(_, name)| name).collect();
+    (names(heads), names(others))
+}
+
+/// The bytes that the value lines of these names take.
+pub fn lines_length(names: &[Name]) -> usize {
+    names.iter().map(|name| name.length + 3).sum()
 }
 
 /// A byte that stands in sheets, or nearly does.
