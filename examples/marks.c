@@ -1,4 +1,4 @@
-/* marks FILE..: the mark of every name in a sheet, or what is wrong with the sheet, and where.
+/* marks FILE..: the mark of every name in a sheet, and the lines behind a contradiction; or what is wrong with the sheet, and where.
  *
  *     cc marks.c $(pkg-config --cflags --libs simmerknot) -o marks && ./marks season.sheet
  */
@@ -23,14 +23,27 @@ static const char *in_words(simmerknot_value value) {
     }
 }
 
-/* The value sheet is lines of name, tab, letter. */
+/* Where to look: the line of the rule for the atom and of the one against it; either may be missing. */
+static void print_lines(uint32_t atom) {
+    const uint32_t for_it = simmerknot_line_of(words, sizeof words, 2 * atom);
+    const uint32_t against_it = simmerknot_line_of(words, sizeof words, 2 * atom + 1);
+    if (for_it) printf(", line %lu for it", (unsigned long)for_it);
+    if (against_it) printf(", line %lu against it", (unsigned long)against_it);
+}
+
+/* The value sheet is lines of name, tab, letter, one for each atom. */
 static void print_marks(size_t len) {
     size_t start = 0, at;
+    uint32_t atom = 0;
     for (at = 0; at < len; at++) {
+        simmerknot_value value;
         if (text[at] != '\n') continue;
-        printf("%-24.*s %s\n", (int)(at - 2 - start), (const char *)text + start,
-               in_words(simmerknot_value_of_letter(text[at - 1])));
+        value = simmerknot_value_of_letter(text[at - 1]);
+        printf("%-24.*s %s", (int)(at - 2 - start), (const char *)text + start, in_words(value));
+        if (value == SIMMERKNOT_I) print_lines(atom);
+        printf("\n");
         start = at + 1;
+        atom++;
     }
 }
 

@@ -46,9 +46,9 @@ extern "C" {
 /* Version. */
 
 #define SIMMERKNOT_VERSION_MAJOR 0
-#define SIMMERKNOT_VERSION_MINOR 2
+#define SIMMERKNOT_VERSION_MINOR 3
 #define SIMMERKNOT_VERSION_PATCH 0
-#define SIMMERKNOT_VERSION_TEXT "0.2.0"
+#define SIMMERKNOT_VERSION_TEXT "0.3.0"
 
 /* The version as one number, to compare with simmerknot_version(). */
 #define SIMMERKNOT_VERSION (1000000 * SIMMERKNOT_VERSION_MAJOR + 1000 * SIMMERKNOT_VERSION_MINOR + SIMMERKNOT_VERSION_PATCH)
@@ -59,6 +59,7 @@ extern "C" {
 #define SIMMERKNOT_MOST_WORDS 8192
 #define SIMMERKNOT_MOST_GROUPS 64   /* of a rule */
 #define SIMMERKNOT_MOST_LITERALS 64 /* of a group */
+#define SIMMERKNOT_MOST_LINE 32768  /* number of a line */
 #define SIMMERKNOT_MOST_SHEET_BYTES 65536
 #define SIMMERKNOT_MOST_NAME_BYTES 24
 
@@ -73,10 +74,12 @@ extern "C" {
 
 /* Evaluates a table of rules over the atoms 0 to n - 1.
  *
- * Read: `table`, 16-bit words of two bytes each, low byte first; records back to back: head code; number of groups, 0 to 64 (0 is
- *   a fact); per group its length, 1 to 64, and its literal codes. A literal code is 2 x atom, plus 1 for the negation. A head
- *   has one record at most.
- * Answered: 0 if evaluated, else a refusal: 1, 2, 3, then the first faulty word by 4, 5, 6 or 7, then 19.
+ * Read: `table`, 16-bit words of two bytes each, low byte first; records back to back: head code; line number, 1 to 32,768, or 0
+ *   in a table made by hand; number of groups, 0 to 64 (0 is a fact); per group its length, 1 to 64, and its literal codes. A literal
+ *   code is 2 x atom, plus 1 for the negation. A head has one record at most. Line numbers stand in any order and may repeat; no
+ *   answer and no value depends on one. A table does not say for which version it was made: whoever stores one stores that too.
+ * Answered: 0 if evaluated, else a refusal: 1, 2, 3, then the first faulty word by 4, 5, 6 or 7, then 19. 6 is also for a line
+ *   number above 32,768.
  * Written: if evaluated, the first n bytes of `values`, the value of each atom as a simmerknot_value.
  * Untouched: `table`; the bytes of `values` past n; all of `values` on a refusal. */
 uint64_t simmerknot_evaluate(uint64_t n, const uint8_t *table, size_t table_len, uint8_t *values, size_t values_len);
@@ -87,8 +90,9 @@ uint64_t simmerknot_evaluate(uint64_t n, const uint8_t *table, size_t table_len,
  * Answered: the value sheet's length, else a refusal: 8, 9, then the first literal with a fault by 10, 11, 12, 7, 13 or 14, then
  *   19, last 15.
  * Written: every whole entry of `words` and `names`. If accepted, `words` begins with the sheet's rules as a table, one record to a
- *   line, and `names` with one entry for each atom, in atom order: 32 x the place of the name's first appearance + its length,
- *   four bytes, low byte first. All entries after these are zero; on a refusal all are, also where the buffer was too small.
+ *   line, with the line of its head, from 1, and `names` with one entry for each atom, in atom order: 32 x the place of the
+ *   name's first appearance + its length, four bytes, low byte first. All entries after these are zero; on a refusal all are, also
+ *   where the buffer was too small.
  *   If accepted, `text` begins with the value sheet: for each atom, in atom order, its name, tab, one letter f, u, i or t, byte 10.
  *   So it has a line for each name of the sheet, also for one that heads no rule, and no name twice.
  * Untouched: `sheet`; bytes after the last whole word and after the last whole name entry; the bytes of `text` past the value
@@ -117,7 +121,7 @@ static inline uint32_t simmerknot_place(uint64_t answer) { return (uint32_t)(ans
     X(3, VALUE_ROOM_TOO_SMALL, "the value room has fewer than N bytes") \
     X(4, CUT_SHORT, "a record is cut short") \
     X(5, NOT_A_LITERAL, "a literal code is not below 2N") \
-    X(6, WRONG_LENGTH, "a rule has more than 64 groups, or a group has no literal or more than 64") \
+    X(6, OUT_OF_RANGE, "a rule has more than 64 groups, a group has no literal or more than 64, or a line number is above 32,768") \
     X(7, SECOND_RULE, "a second rule for one head") \
     X(8, SHEET_TOO_LONG, "the sheet has more than 65,536 bytes") \
     X(9, BUFFER_TOO_SMALL, "the word buffer has fewer than 8,192 words or the name buffer fewer than 512 entries") \
@@ -201,6 +205,54 @@ static inline uint32_t simmerknot_name_entry(const uint8_t *names, size_t atom) 
 /* Where in the sheet the name of an entry begins, and how many bytes it has. */
 static inline size_t simmerknot_name_place(uint32_t entry) { return entry / 32; }
 static inline size_t simmerknot_name_len(uint32_t entry) { return entry % 32; }
+
+/* The words of a table, looked at: any bytes and any length will do, and nothing outside is read. A lone last byte is no word. */
+
+/* Where a record has its line number and its number of groups, and where its first group begins, counted from its head. */
+#define SIMMERKNOT_LINE_AT 1
+#define SIMMERKNOT_GROUPS_AT 2
+#define SIMMERKNOT_BODY_AT 3
+
+/* Word `at`, which the words must hold. */
+static inline uint32_t simmerknot_word(const uint8_t *words, size_t at) {
+    return (uint32_t)words[2 * at] | (uint32_t)words[2 * at + 1] << 8;
+}
+
+/* The word after the record that begins at word `at`; 0 if the words end before the record does. */
+static inline size_t simmerknot_record_end(const uint8_t *words, size_t words_len, size_t at) {
+    const size_t count = words_len / 2;
+    size_t groups;
+    if (at >= count || count - at < SIMMERKNOT_BODY_AT) return 0;
+    groups = simmerknot_word(words, at + SIMMERKNOT_GROUPS_AT);
+    for (at += SIMMERKNOT_BODY_AT; groups > 0; groups--) {
+        if (at >= count || count - at <= simmerknot_word(words, at)) return 0;
+        at += 1 + simmerknot_word(words, at);
+    }
+    return at;
+}
+
+/* The number of words that a sheet filled in its word buffer; twice that is the length of its rules as a table, in bytes. 0 after a
+ * refusal. For any words: those of the whole records before the first that has line 0 or is cut short. */
+static inline size_t simmerknot_words_used(const uint8_t *words, size_t words_len) {
+    size_t at = 0, end = simmerknot_record_end(words, words_len, 0);
+    while (end != 0 && simmerknot_word(words, at + SIMMERKNOT_LINE_AT) != 0) {
+        at = end;
+        end = simmerknot_record_end(words, words_len, at);
+    }
+    return at;
+}
+
+/* The line of the rule with that head, a literal code; 0 if no record has the head, or its record has no line. The first record with
+ * it counts, and none from one that is cut short on. The words may be a sheet's whole buffer, zeros and all. */
+static inline uint32_t simmerknot_line_of(const uint8_t *words, size_t words_len, uint32_t head) {
+    size_t at = 0, end = simmerknot_record_end(words, words_len, 0);
+    while (end != 0) {
+        if (simmerknot_word(words, at) == head) return simmerknot_word(words, at + SIMMERKNOT_LINE_AT);
+        at = end;
+        end = simmerknot_record_end(words, words_len, at);
+    }
+    return 0;
+}
 
 #ifdef __cplusplus
 }

@@ -7,7 +7,7 @@
 
 enum { STACK = 1 << 20 };
 static uint8_t stack[STACK] __attribute__((aligned(4096)));
-static uint8_t table[4096], values[512], words[SIMMERKNOT_WORD_BUFFER_BYTES], names[SIMMERKNOT_NAME_BUFFER_BYTES];
+static uint8_t table[6144], values[512], words[SIMMERKNOT_WORD_BUFFER_BYTES], names[SIMMERKNOT_NAME_BUFFER_BYTES];
 static uint8_t text[SIMMERKNOT_VALUE_SHEET_BYTES];
 static char sheet[8192];
 static size_t table_len, sheet_len;
@@ -45,6 +45,8 @@ int main(void) {
     for (i = 0; i < 1024; i++) {
         table[table_len++] = (uint8_t)(i % 256);
         table[table_len++] = (uint8_t)(i / 256);
+        table[table_len++] = (uint8_t)((i + 1) % 256);
+        table[table_len++] = (uint8_t)((i + 1) / 256);
         table[table_len++] = 0;
         table[table_len++] = 0;
         sheet_len += (size_t)sprintf(sheet + sheet_len, "%sa%d\n", i % 2 ? "-" : "", i / 2);

@@ -1,4 +1,4 @@
-/* boundary PLACEMENT CASES: the two calls at the edges of every lent buffer.
+/* boundary PLACEMENT CASES: the two calls, and the header's functions over words, at the edges of every lent buffer.
  *
  * PLACEMENT says where a lent buffer lies:
  *   exact      an allocation of exactly its size, for AddressSanitizer and valgrind
@@ -8,7 +8,7 @@
  *   after      its first byte just after such a page
  * The archive is not instrumented, so a byte too far by its own code shows only against such a page or under valgrind. Where
  * pages are used, the table and the sheet lie in pages that cannot be written. After the written cases come CASES random ones
- * of each call. The last line is the number of calls checked; the first fault ends the run. */
+ * of each call and of words looked at. The last line is the number of calls checked; the first fault ends the run. */
 #define _DEFAULT_SOURCE
 #include <simmerknot.h>
 #include <stdio.h>
@@ -99,10 +99,146 @@ static void check_zero(struct lent b, size_t from, size_t to, const char *broken
 
 static uint64_t refusal(uint64_t number, uint64_t place) { return number * ((uint64_t)1 << 32) + place; }
 
+/* Random numbers. */
+
+static uint64_t state = 0x51ee7;
+
+static size_t below(size_t bound) {
+    state ^= state << 13;
+    state ^= state >> 7;
+    state ^= state << 17;
+    return (size_t)(state >> 11) % bound;
+}
+
+/* The layout of words, read here without the header's functions. */
+
+struct record {
+    uint32_t head, line;
+    size_t start, end;
+};
+enum { MOST_RECORDS = 8192 };
+
+static uint32_t word_at(const uint8_t *bytes, size_t at) { return bytes[2 * at] + 256u * bytes[2 * at + 1]; }
+
+static void put_word(uint8_t *bytes, size_t at, size_t word) {
+    bytes[2 * at] = (uint8_t)(word % 256);
+    bytes[2 * at + 1] = (uint8_t)(word / 256);
+}
+
+/* The whole records that the words begin with, word by word; how many there are. */
+static size_t records_in(const uint8_t *bytes, size_t len, struct record *records) {
+    enum { HEAD, LINE, GROUPS, BODY } next = HEAD;
+    size_t found = 0, groups = 0, literals = 0, at;
+    for (at = 0; at < len / 2 && found < MOST_RECORDS; at++) {
+        const uint32_t word = word_at(bytes, at);
+        if (next == HEAD) {
+            records[found].head = word;
+            records[found].start = at;
+            next = LINE;
+        } else if (next == LINE) {
+            records[found].line = word;
+            next = GROUPS;
+        } else if (next == GROUPS) {
+            groups = word;
+            next = BODY;
+        } else if (literals > 0) {
+            literals--;
+        } else {
+            literals = word;
+            groups--;
+        }
+        if (next == BODY && groups == 0 && literals == 0) {
+            records[found++].end = at + 1;
+            next = HEAD;
+        }
+    }
+    return found;
+}
+
+/* The header's functions over words. */
+
+/* The line of the first of the records with that head. */
+static uint32_t first_line(const struct record *records, size_t found, uint32_t head) {
+    size_t i;
+    for (i = 0; i < found; i++) {
+        if (records[i].head == head) return records[i].line;
+    }
+    return 0;
+}
+
+/* How many of the words looked at began with words of a sheet, and how many had a record after those. */
+static unsigned long with_words, with_more;
+
+/* Any bytes: the words used, the line of any head, and the end of a record that is taken to begin at any word. */
+static void look(const uint8_t *bytes, size_t len) {
+    static const uint32_t heads[] = {0, 1, 2, 3, 4, 5, 1023, 1024, 65535, 65536, 65537, UINT32_MAX};
+    static const size_t outside[] = {SIZE_MAX, SIZE_MAX - 1, SIZE_MAX - 3, SIZE_MAX / 2, SIZE_MAX / 2 + 1};
+    static struct record records[MOST_RECORDS], there[MOST_RECORDS];
+    struct lent w = lend_to_read(bytes, len);
+    const size_t count = len / 2, found = records_in(bytes, len, records);
+    size_t i, used = 0;
+    for (i = 0; i < found && records[i].line != 0; i++) used = records[i].end;
+    with_words += i > 0;
+    with_more += i > 0 && i < found;
+    check(simmerknot_words_used(w.at, len) == used, "other words are used");
+    for (i = 0; i < sizeof heads / sizeof *heads; i++) {
+        check(simmerknot_line_of(w.at, len, heads[i]) == first_line(records, found, heads[i]), "another line");
+    }
+    for (i = 0; i < count; i += 1 + below(1 + count / 20)) {
+        const uint32_t head = word_at(bytes, i);
+        const size_t end = records_in(bytes + 2 * i, len - 2 * i, there) ? i + there[0].end : 0;
+        check(simmerknot_word(w.at, i) == head, "another word");
+        check(simmerknot_line_of(w.at, len, head) == first_line(records, found, head), "another line");
+        check(simmerknot_record_end(w.at, len, i) == end, "another end of a record");
+    }
+    for (i = count; i < count + 4; i++) check(simmerknot_record_end(w.at, len, i) == 0, "a record after the words");
+    for (i = 0; i < sizeof outside / sizeof *outside; i++) {
+        check(simmerknot_record_end(w.at, len, outside[i]) == 0, "a record far outside the words");
+    }
+    calls++;
+    take_back(w);
+}
+
+/* Small words, most of them records with or without a line; else bytes of any kind. */
+static void put_any(uint8_t *bytes, size_t len) {
+    static const uint16_t edges[] = {0, 64, 65, 256, 32768, 32769, 65535};
+    const size_t small = below(3), edge = 1 + below(40);
+    size_t i;
+    for (i = 0; i < len; i++) bytes[i] = (uint8_t)below(256);
+    for (i = 0; small && i < len / 2; i++) put_word(bytes, i, below(edge) ? below(2 + small) : edges[below(7)]);
+}
+
+/* Every length from 0 to 40 bytes, all bytes 0, all 255 and any; then random lengths, at times a whole buffer's. */
+static void any_words(unsigned long count) {
+    static uint8_t bytes[16400];
+    const unsigned long all = count;
+    size_t len, round;
+    what = "any words";
+    for (len = 0; len <= 40; len++) {
+        memset(bytes, 0, len);
+        look(bytes, len);
+        memset(bytes, 0xff, len);
+        look(bytes, len);
+        for (round = 0; round < 20; round++) {
+            put_any(bytes, len);
+            look(bytes, len);
+        }
+    }
+    while (count--) {
+        len = below(1000) == 0 ? 16380 + below(20) : below(10) == 0 ? below(400) : below(80);
+        put_any(bytes, len);
+        look(bytes, len);
+    }
+    check(5 * with_words >= all && 10 * with_more >= all, "words of a sheet are rare");
+}
+
 /* simmerknot_evaluate. */
 
+/* What an evaluation gave, as letters. */
+static char valued[513];
+
 /* Values are letters, one for each atom; NULL where any will do. */
-static uint64_t evaluate(uint64_t n, const uint8_t *table, size_t table_len, size_t room, const char *values) {
+static uint64_t evaluate_once(uint64_t n, const uint8_t *table, size_t table_len, size_t room, const char *values) {
     struct lent t = lend_to_read(table, table_len), v = lend_filled(room);
     const uint64_t answer = simmerknot_evaluate(n, t.at, t.len, v.at, v.len);
     size_t i;
@@ -119,7 +255,9 @@ static uint64_t evaluate(uint64_t n, const uint8_t *table, size_t table_len, siz
             const simmerknot_value value = simmerknot_value_of_code(v.at[i]);
             check(value != SIMMERKNOT_NO_VALUE, "no value code");
             if (values) check(value == simmerknot_value_of_letter((uint8_t)values[i]), "another value");
+            valued[i] = "fuit"[value];
         }
+        valued[n] = 0;
         check_untouched(v, (size_t)n, "a byte past the values was altered");
     }
     take_back(t);
@@ -127,12 +265,34 @@ static uint64_t evaluate(uint64_t n, const uint8_t *table, size_t table_len, siz
     return answer;
 }
 
+/* An accepted table with other lines, all 0, all 32,768 or any: the same answer and values; with one above 32,768: 6 there. */
+static void check_lines(uint64_t n, const uint8_t *table, size_t len, size_t room) {
+    static struct record records[MOST_RECORDS];
+    static uint8_t other[16384];
+    char values[513];
+    const size_t found = records_in(table, len, records), kind = below(3);
+    size_t i, at;
+    if (found == 0) return;
+    check(len <= sizeof other && records[found - 1].end == len / 2, "an accepted table that is not records");
+    strcpy(values, valued);
+    memcpy(other, table, len);
+    for (i = 0; i < found; i++) put_word(other, records[i].start + 1, kind == 0 ? 0 : kind == 1 ? 32768 : below(32769));
+    check(evaluate_once(n, other, len, room, values) == 0, "another answer where only lines differ");
+    at = records[below(found)].start + 1;
+    put_word(other, at, 32769 + below(65536 - 32769));
+    check(evaluate_once(n, other, len, room, NULL) == refusal(6, at), "a line above 32,768 is not refused, or elsewhere");
+}
+
+/* The same as evaluate_once, and an accepted table with other lines. */
+static uint64_t evaluate(uint64_t n, const uint8_t *table, size_t table_len, size_t room, const char *values) {
+    const uint64_t answer = evaluate_once(n, table, table_len, room, values);
+    if (answer == 0) check_lines(n, table, table_len, room);
+    return answer;
+}
+
 static size_t put_words(uint8_t *bytes, const uint16_t *words, size_t count) {
     size_t i;
-    for (i = 0; i < count; i++) {
-        bytes[2 * i] = (uint8_t)(words[i] % 256);
-        bytes[2 * i + 1] = (uint8_t)(words[i] / 256);
-    }
+    for (i = 0; i < count; i++) put_word(bytes, i, words[i]);
     return 2 * count;
 }
 
@@ -148,28 +308,42 @@ struct table_case {
 static const struct table_case table_cases[] = {
     {"no rules, N 0", 0, {0}, 0, 0, 0, 0, 0, ""},
     {"no rules, N 3", 3, {0}, 0, 0, 3, 0, 0, "uuu"},
-    {"p", 1, {0, 0}, 2, 0, 1, 0, 0, "t"},
-    {"-p", 1, {1, 0}, 2, 0, 1, 0, 0, "f"},
-    {"p, -p", 1, {0, 0, 1, 0}, 4, 0, 1, 0, 0, "i"},
-    {"p, -p: p, with room to spare", 1, {0, 0, 1, 1, 1, 0}, 6, 0, 9, 0, 0, "i"},
-    {"-b: b", 1, {1, 1, 1, 0}, 4, 0, 1, 0, 0, "u"},
-    {"a, -a, p: a b", 3, {0, 0, 1, 0, 4, 1, 2, 0, 2}, 9, 0, 3, 0, 0, "iuu"},
-    {"a, -a, b, p: a / b", 3, {0, 0, 1, 0, 2, 0, 4, 2, 1, 0, 1, 2}, 12, 0, 3, 0, 0, "itt"},
+    {"p", 1, {0, 1, 0}, 3, 0, 1, 0, 0, "t"},
+    {"-p", 1, {1, 1, 0}, 3, 0, 1, 0, 0, "f"},
+    {"p, -p", 1, {0, 1, 0, 1, 2, 0}, 6, 0, 1, 0, 0, "i"},
+    {"p, -p: p, with room to spare", 1, {0, 1, 0, 1, 2, 1, 1, 0}, 8, 0, 9, 0, 0, "i"},
+    {"-b: b", 1, {1, 1, 1, 1, 0}, 5, 0, 1, 0, 0, "u"},
+    {"a, -a, p: a b", 3, {0, 1, 0, 1, 2, 0, 4, 3, 1, 2, 0, 2}, 12, 0, 3, 0, 0, "iuu"},
+    {"a, -a, b, p: a / b", 3, {0, 1, 0, 1, 2, 0, 2, 3, 0, 4, 4, 2, 1, 0, 1, 2}, 16, 0, 3, 0, 0, "itt"},
+    {"lines 0, 1 and 32,768", 2, {0, 0, 0, 1, 1, 0, 2, 32768, 0}, 9, 0, 2, 0, 0, "it"},
+    {"a number, then a zero", 1, {0, 9, 0, 1, 0, 0}, 6, 0, 1, 0, 0, "i"},
+    {"lines that repeat and fall", 2, {0, 9, 0, 1, 9, 0, 2, 3, 0}, 9, 0, 2, 0, 0, "it"},
+    {"b, a, -a as 0.2.0 had them are two other rules", 2, {2, 0, 0, 0, 1, 0}, 6, 0, 2, 0, 0, "tt"},
     {"N above 512", 513, {0}, 0, 0, 513, 1, 0, NULL},
     {"N far above 512", UINT64_MAX, {0}, 0, 0, 0, 1, 0, NULL},
-    {"room below N", 3, {0, 0}, 2, 0, 2, 3, 0, NULL},
-    {"no room", 1, {0, 0}, 2, 0, 0, 3, 0, NULL},
+    {"room below N", 3, {0, 0, 0}, 3, 0, 2, 3, 0, NULL},
+    {"no room", 1, {0, 0, 0}, 3, 0, 0, 3, 0, NULL},
     {"cut short after a head", 1, {0}, 1, 0, 1, 4, 1, NULL},
-    {"cut short in a group", 2, {0, 1, 2, 2}, 4, 0, 2, 4, 4, NULL},
-    {"a lone byte", 1, {0, 0}, 2, 1, 1, 4, 2, NULL},
-    {"a lone byte after a fault", 1, {0, 65}, 2, 1, 1, 6, 1, NULL},
+    {"cut short after a line", 1, {0, 1}, 2, 0, 1, 4, 2, NULL},
+    {"cut short in a group", 2, {0, 0, 1, 2, 2}, 5, 0, 2, 4, 5, NULL},
+    {"a lone byte", 1, {0, 0, 0}, 3, 1, 1, 4, 3, NULL},
+    {"a lone byte after a head", 1, {0}, 1, 1, 1, 4, 1, NULL},
+    {"a lone byte after a line", 1, {0, 1}, 2, 1, 1, 4, 2, NULL},
+    {"a lone byte after a fault", 1, {0, 0, 65}, 3, 1, 1, 6, 2, NULL},
     {"one byte alone", 1, {0}, 0, 1, 1, 4, 0, NULL},
-    {"literal not below 2N", 1, {2, 0}, 2, 0, 1, 5, 0, NULL},
-    {"literal not below 2N in a body", 1, {0, 1, 1, 65535}, 4, 0, 1, 5, 3, NULL},
-    {"65 groups", 1, {0, 65}, 2, 0, 1, 6, 1, NULL},
-    {"a group of none", 1, {0, 1, 0}, 3, 0, 1, 6, 2, NULL},
-    {"a group of 65", 1, {0, 1, 65}, 3, 0, 1, 6, 2, NULL},
-    {"second rule", 1, {0, 0, 0, 0}, 4, 0, 1, 7, 2, NULL},
+    {"literal not below 2N", 1, {2, 0, 0}, 3, 0, 1, 5, 0, NULL},
+    {"literal not below 2N in a body", 1, {0, 0, 1, 1, 65535}, 5, 0, 1, 5, 4, NULL},
+    {"line 32,769", 1, {0, 32769, 0}, 3, 0, 1, 6, 1, NULL},
+    {"line 65,535, after a rule", 1, {0, 1, 0, 1, 65535, 0}, 6, 0, 1, 6, 4, NULL},
+    {"line 40,000 in the last word", 1, {0, 40000}, 2, 0, 1, 6, 1, NULL},
+    {"line 40,000 and a lone byte", 1, {0, 40000}, 2, 1, 1, 6, 1, NULL},
+    {"line 40,000 and 65 groups", 1, {0, 40000, 65}, 3, 0, 1, 6, 1, NULL},
+    {"literal not below 2N, line 40,000", 1, {2, 40000, 0}, 3, 0, 1, 5, 0, NULL},
+    {"second rule, line 40,000", 1, {0, 0, 0, 0, 40000, 0}, 6, 0, 1, 7, 3, NULL},
+    {"65 groups", 1, {0, 0, 65}, 3, 0, 1, 6, 2, NULL},
+    {"a group of none", 1, {0, 0, 1, 0}, 4, 0, 1, 6, 3, NULL},
+    {"a group of 65", 1, {0, 0, 1, 65}, 4, 0, 1, 6, 3, NULL},
+    {"second rule", 1, {0, 0, 0, 0, 0, 0}, 6, 0, 1, 7, 3, NULL},
 };
 
 static void written_tables(void) {
@@ -189,19 +363,20 @@ static void full_tables(void) {
     static uint8_t bytes[2 * 8194];
     static char values[513];
     uint16_t words[70];
-    size_t len = 0, left = 8192 - 2, atom, k, j;
+    size_t len = 0, left = 8192 - 3, atom, k, j;
     memset(values, 't', 512);
     for (atom = 511; atom > 0; atom--) {
-        k = left / atom - 3;
+        k = left / atom - 4;
         words[0] = (uint16_t)(2 * atom);
-        words[1] = 1;
-        words[2] = (uint16_t)k;
-        for (j = 0; j < k; j++) words[3 + j] = (uint16_t)(2 * atom - 2);
-        len += put_words(bytes + len, words, k + 3);
-        left -= k + 3;
+        words[1] = (uint16_t)atom;
+        words[2] = 1;
+        words[3] = (uint16_t)k;
+        for (j = 0; j < k; j++) words[4 + j] = (uint16_t)(2 * atom - 2);
+        len += put_words(bytes + len, words, k + 4);
+        left -= k + 4;
     }
-    words[0] = words[1] = 0;
-    len += put_words(bytes + len, words, 2);
+    words[0] = words[1] = words[2] = 0;
+    len += put_words(bytes + len, words, 3);
     what = "8,192 words";
     check(len == 16384 && left == 0, "the table is not full");
     check(evaluate(512, bytes, len, 512, values) == 0, "another answer");
@@ -243,11 +418,61 @@ static void check_looked_up(const uint8_t *sheet, size_t sheet_len, const uint8_
     }
 }
 
-/* What an accepted sheet left: names that stand in the sheet, one record a line, zeros after both, and a value sheet that says
- * of each name, in atom order, what an evaluation of those very words says. */
+/* The words of an accepted sheet, by its text: 3 for a head, 2 for the first literal of a group, 1 for a further one. */
+static size_t words_of(const uint8_t *sheet, size_t len) {
+    size_t at, words = 0;
+    for (at = 0; at < len; at++) {
+        const uint8_t before = at == 0 ? '\n' : sheet[at - 1];
+        words += before == '\n' ? 3 : before == '\t' ? 2 : before == ' ' ? 1 : 0;
+    }
+    return words;
+}
+
+/* The code of the literal that starts there, by the name entries. */
+static uint32_t code_at(const uint8_t *sheet, size_t at, size_t sheet_len, struct lent n, size_t atoms) {
+    const size_t name = at + (sheet[at] == '-'), len = part_len(sheet, name, sheet_len);
+    size_t atom;
+    for (atom = 0; atom < atoms; atom++) {
+        const uint32_t entry = simmerknot_name_entry(n.at, atom);
+        if (simmerknot_name_len(entry) == len && memcmp(sheet + simmerknot_name_place(entry), sheet + name, len) == 0) break;
+    }
+    check(atom < atoms, "a name of the sheet has no entry");
+    return (uint32_t)(2 * atom + (sheet[at] == '-'));
+}
+
+/* The words of an accepted sheet: one record to a line, with the line of its head, which is what a look-up by head says; no line for
+ * a literal that heads no rule; zeros after the last. */
+static void check_words(const uint8_t *sheet, size_t sheet_len, struct lent w, struct lent n, size_t atoms) {
+    static struct record records[MOST_RECORDS];
+    static uint8_t heads[1024];
+    const size_t used = simmerknot_words_used(w.at, w.len), found = records_in(w.at, 2 * used, records);
+    size_t at, i = 0;
+    uint32_t code;
+    check(used == words_of(sheet, sheet_len), "other words are used than the sheet has");
+    check(used <= 8192, "more than 8,192 words");
+    check_zero(w, 2 * used, w.len / 2 * 2, "a word after the last is not zero");
+    check(found == lines_of(sheet, sheet_len), "not one record to a line");
+    memset(heads, 0, sizeof heads);
+    for (at = 0; at < sheet_len; at++) {
+        if (at > 0 && sheet[at - 1] != '\n') continue;
+        code = code_at(sheet, at, sheet_len, n, atoms);
+        heads[code] = 1;
+        check(records[i].head == code, "a record of another head");
+        check(records[i].line == 1 + lines_of(sheet, at), "a record of another line");
+        check(simmerknot_line_of(w.at, w.len, code) == records[i].line, "a head of another line");
+        i++;
+    }
+    for (code = 0; code < 2 * atoms; code++) {
+        check(heads[code] || simmerknot_line_of(w.at, w.len, code) == 0, "a line for a literal that heads no rule");
+    }
+    check(simmerknot_line_of(w.at, w.len, code) == 0, "a line for a literal of no atom");
+    check(simmerknot_line_of(w.at, w.len, 65536) == 0, "a line for a code above 65,535");
+}
+
+/* What an accepted sheet left: names that stand in the sheet, its words, zeros after both, and a value sheet that says of each name,
+ * in atom order, what an evaluation of those very words says. */
 static void check_accepted(const uint8_t *sheet, size_t sheet_len, struct lent w, struct lent n, struct lent t, size_t text_len) {
-    static uint8_t values[512];
-    size_t atoms = 0, at = 0, line, lines = lines_of(sheet, sheet_len), i, text = 0;
+    size_t atoms = 0, i, text = 0;
     while (atoms < n.len / 4 && simmerknot_name_entry(n.at, atoms) != 0) {
         const uint32_t entry = simmerknot_name_entry(n.at, atoms++);
         check(simmerknot_name_len(entry) <= SIMMERKNOT_MOST_NAME_BYTES, "a name entry of more than 24 bytes");
@@ -255,23 +480,15 @@ static void check_accepted(const uint8_t *sheet, size_t sheet_len, struct lent w
     }
     check(atoms <= 512, "more than 512 atoms");
     check_zero(n, 4 * atoms, n.len / 4 * 4, "a name entry after the last is not zero");
-    for (line = 0; line < lines; line++) {
-        size_t groups;
-        check(at + 1 < 8192, "a record outside the words");
-        groups = w.at[2 * at + 2];
-        at += 2;
-        for (i = 0; i < groups; i++) at += 1u + w.at[2 * at];
-        check(at <= 8192, "a record outside the words");
-    }
-    check_zero(w, 2 * at, w.len / 2 * 2, "a word after the last is not zero");
-    check(simmerknot_evaluate(atoms, w.at, 2 * at, values, sizeof values) == 0, "the words are no table");
+    check_words(sheet, sheet_len, w, n, atoms);
+    check(evaluate(atoms, w.at, 2 * simmerknot_words_used(w.at, w.len), atoms, NULL) == 0, "the words are no table");
     for (i = 0; i < atoms; i++) {
         const uint32_t entry = simmerknot_name_entry(n.at, i);
         const size_t len = simmerknot_name_len(entry);
         check(text + len + 3 <= text_len, "the value sheet is too short");
         check(memcmp(t.at + text, sheet + simmerknot_name_place(entry), len) == 0, "another name");
         check(t.at[text + len] == '\t' && t.at[text + len + 2] == '\n', "not a line");
-        check((int)simmerknot_value_of_letter(t.at[text + len + 1]) == values[i], "another value");
+        check(t.at[text + len + 1] == valued[i], "another value");
         text += len + 3;
     }
     check(text == text_len, "the value sheet is too long");
@@ -290,6 +507,7 @@ static uint64_t read_sheet(const uint8_t *sheet, size_t sheet_len, size_t words_
         check((number >= 7 && number <= 15) || number == 19, "a number that the sheet entry does not give");
         check_zero(w, 0, words_len / 2 * 2, "a refusal left a word");
         check_zero(n, 0, names_len / 4 * 4, "a refusal left a name entry");
+        check(simmerknot_words_used(w.at, w.len) == 0 && simmerknot_line_of(w.at, w.len, 0) == 0, "words of a refusal");
         check_untouched(t, 0, "a refusal wrote text");
     } else {
         check(answer <= text_len, "longer than the text room");
@@ -389,19 +607,51 @@ static void long_sheets(void) {
     strcpy(sheet + len, "\tb\n");
     what = "65 groups";
     check(read_sheet((uint8_t *)sheet, len + 3, 16384, 2048, 4) == refusal(13, len + 1), "another answer");
-    /* 63 lines of 130 words, and a fact. */
-    for (i = 0, len = 0; i < 63; i++) {
-        len += (size_t)sprintf(sheet + len, "h%lu", (unsigned long)i);
-        for (at = 0; at < 64; at++) len += (size_t)sprintf(sheet + len, "\tb");
-        len += (size_t)sprintf(sheet + len, "\n");
+    /* Both literals of 512 names head a line of 8 words. */
+    for (i = 0, len = 0; i < 1024; i++) {
+        len += (size_t)sprintf(sheet + len, "%s%sn%lu\tn0\tn0 n0", i ? "\n" : "", i % 2 ? "-" : "", (unsigned long)(i / 2));
     }
-    len += (size_t)sprintf(sheet + len, "x");
     strcpy(sheet + len, "\n");
-    what = "8,192 words";
+    what = "8,192 words, 1,024 heads, 512 names";
+    check(words_of((uint8_t *)sheet, len + 1) == 8192, "the sheet is not full");
     check(!simmerknot_refused(read_sheet((uint8_t *)sheet, len + 1, 16384, 2048, 13824)), "refused");
-    strcpy(sheet + len, "\tb\n");
-    what = "8,194 words";
-    check(read_sheet((uint8_t *)sheet, len + 3, 16384, 2048, 13824) == refusal(14, len + 1), "another answer");
+    check(!simmerknot_refused(read_sheet((uint8_t *)sheet, len + 1, 16391, 2048, 13824)), "refused");
+    strcpy(sheet + len, " n0\n");
+    what = "8,193 words";
+    check(read_sheet((uint8_t *)sheet, len + 4, 16384, 2048, 13824) == refusal(14, len + 1), "another answer");
+    /* 62 lines of 131 words and one of 67 leave room for a head, or for a literal and a further one in a new group. */
+    for (i = 0, len = 0; i < 63; i++) {
+        len += (size_t)sprintf(sheet + len, "%sh%lu", i ? "\n" : "", (unsigned long)i);
+        for (at = 0; at < (i < 62 ? 64 : 32); at++) len += (size_t)sprintf(sheet + len, "\tb");
+    }
+    what = "8,189 words and a head";
+    check(words_of((uint8_t *)sheet, len) == 8189, "another count");
+    strcpy(sheet + len, "\nx\n");
+    check(!simmerknot_refused(read_sheet((uint8_t *)sheet, len + 3, 16384, 2048, 13824)), "refused");
+    what = "8,191 words and a head";
+    strcpy(sheet + len, "\tb\nx\n");
+    check(read_sheet((uint8_t *)sheet, len + 5, 16384, 2048, 13824) == refusal(14, len + 3), "another answer");
+    what = "8,190 words and a head";
+    strcpy(sheet + len, " b\nx\n");
+    check(read_sheet((uint8_t *)sheet, len + 5, 16384, 2048, 13824) == refusal(14, len + 3), "another answer");
+    what = "8,191 words and the first literal of a group";
+    strcpy(sheet + len, "\tb\tb\n");
+    check(read_sheet((uint8_t *)sheet, len + 5, 16384, 2048, 13824) == refusal(14, len + 3), "another answer");
+    what = "8,191 words and a further literal";
+    strcpy(sheet + len, "\tb b\n");
+    check(!simmerknot_refused(read_sheet((uint8_t *)sheet, len + 5, 16384, 2048, 13824)), "refused");
+    /* 41 lines of up to 64 names of 24 bytes, and one more. */
+    for (i = 0, len = 0; i < 41; i++) {
+        len += (size_t)sprintf(sheet + len, "h%023lu", (unsigned long)i);
+        for (at = 0; at < (i < 40 ? 64 : 20); at++) {
+            len += (size_t)sprintf(sheet + len, "%sb%023lu", at ? " " : "\t", (unsigned long)at);
+        }
+        sheet[len++] = '\n';
+    }
+    len += (size_t)sprintf(sheet + len, "fact.fact.\n");
+    what = "65,536 bytes, accepted";
+    check(len == 65536, "the sheet is not full");
+    check(!simmerknot_refused(read_sheet((uint8_t *)sheet, len, 16384, 2048, 13824)), "refused");
     memset(sheet, 'a', sizeof sheet);
     what = "65,536 bytes";
     check(read_sheet((uint8_t *)sheet, 65536, 16384, 2048, 0) == refusal(11, 24), "another answer");
@@ -427,30 +677,22 @@ static void nulls(void) {
     check(simmerknot_sheet(NULL, 0, words, 16384, names, 2048, NULL, 0) == 0, "the empty sheet");
     check(simmerknot_sheet((const uint8_t *)"p\n", 2, words, 16384, names, 2048, NULL, 0) == refusal(15, 4), "no text room");
     calls += 9;
+    check(simmerknot_words_used(NULL, 0) == 0 && simmerknot_line_of(NULL, 0, 0) == 0, "no words");
     free(words);
     free(names);
 }
 
 /* Random calls. */
 
-static uint64_t state = 0x51ee7;
-
-static size_t below(size_t bound) {
-    state ^= state << 13;
-    state ^= state >> 7;
-    state ^= state << 17;
-    return (size_t)(state >> 11) % bound;
-}
-
 static void random_tables(unsigned long count) {
-    static const uint16_t edges[] = {0, 1, 64, 65, 1023, 1024, 65535};
+    static const uint16_t edges[] = {0, 1, 64, 65, 1023, 1024, 32768, 32769, 65535};
     uint16_t words[40];
     uint8_t bytes[81];
     what = "random tables";
     while (count--) {
         const size_t len = below(41), n = below(5), lone = below(8) == 0;
         size_t i;
-        for (i = 0; i < len; i++) words[i] = below(20) ? (uint16_t)below(5) : edges[below(7)];
+        for (i = 0; i < len; i++) words[i] = below(20) ? (uint16_t)below(5) : edges[below(9)];
         put_words(bytes, words, len);
         bytes[2 * len] = (uint8_t)below(256);
         evaluate(n, bytes, 2 * len + lone, n + below(4) - (n && below(8) == 0), NULL);
@@ -523,6 +765,7 @@ int main(int argc, char **argv) {
     full_tables();
     written_sheets();
     long_sheets();
+    any_words(count);
     random_tables(count);
     random_sheets(count);
     random_rules(count);

@@ -1,4 +1,4 @@
-/* The header's own promises, as C99 and as C++11: limits, the list of refusals, answers taken apart, values, version. */
+/* The header's own promises, as C99 and as C++11: limits, the list of refusals, answers taken apart, values, words, version. */
 #include <simmerknot.h>
 #include <stdio.h>
 #include <stdlib.h>
@@ -29,6 +29,7 @@ static void limits(void) {
     check(SIMMERKNOT_MOST_WORDS == 8192, "8,192 words");
     check(SIMMERKNOT_MOST_GROUPS == 64, "64 groups");
     check(SIMMERKNOT_MOST_LITERALS == 64, "64 literals");
+    check(SIMMERKNOT_MOST_LINE == 32768, "line 32,768");
     check(SIMMERKNOT_MOST_SHEET_BYTES == 65536, "65,536 bytes");
     check(SIMMERKNOT_MOST_NAME_BYTES == 24, "24 bytes");
     check(SIMMERKNOT_WORD_BUFFER_BYTES == 16384, "a word is two bytes");
@@ -81,6 +82,97 @@ static void entries(void) {
     check(simmerknot_name_entry(names, 2) == 0x92345678u, "four bytes, low byte first");
 }
 
+/* The words in an allocation of exactly so many bytes, low byte first. */
+static uint8_t *table_of(const uint16_t *words, size_t len) {
+    uint8_t *bytes = (uint8_t *)malloc(len);
+    size_t i;
+    check(bytes || len == 0, "memory");
+    for (i = 0; i < len; i++) bytes[i] = (uint8_t)(i % 2 ? words[i / 2] / 256 : words[i / 2] % 256);
+    return bytes;
+}
+
+static size_t used(const uint16_t *words, size_t len) {
+    uint8_t *bytes = table_of(words, len);
+    const size_t answer = simmerknot_words_used(bytes, len);
+    free(bytes);
+    return answer;
+}
+
+static uint32_t line_of(const uint16_t *words, size_t len, uint32_t head) {
+    uint8_t *bytes = table_of(words, len);
+    const uint32_t answer = simmerknot_line_of(bytes, len, head);
+    free(bytes);
+    return answer;
+}
+
+static size_t record_end(const uint16_t *words, size_t len, size_t at) {
+    uint8_t *bytes = table_of(words, len);
+    const size_t answer = simmerknot_record_end(bytes, len, at);
+    free(bytes);
+    return answer;
+}
+
+/* What the sheet "a\tb -c\td\n-a\n" fills, and a zero: cut at every byte. */
+static void words_of_a_sheet(void) {
+    static const uint16_t words[] = {0, 1, 2, 2, 2, 5, 1, 6, 1, 2, 0, 0};
+    size_t len;
+    for (len = 0; len <= sizeof words; len++) {
+        const size_t count = len / 2, whole = count < 8 ? 0 : count < 11 ? 8 : 11;
+        check(used(words, len) == whole, "the words of whole records");
+        check(line_of(words, len, 0) == (whole >= 8 ? 1 : 0), "the line of a");
+        check(line_of(words, len, 1) == (whole == 11 ? 2 : 0), "the line of -a");
+        check(line_of(words, len, 2) == 0 && line_of(words, len, 5) == 0, "literals that head no rule");
+        check(record_end(words, len, 0) == (whole >= 8 ? 8 : 0), "the end of the first record");
+        check(record_end(words, len, 8) == (whole == 11 ? 11 : 0), "the end of the second");
+        check(record_end(words, len, 11) == 0 && record_end(words, len, 12) == 0, "no record in the rest");
+    }
+}
+
+static void words_made_by_hand(void) {
+    static const uint16_t none[] = {0, 0, 0, 0, 0, 0, 0}, mixed[] = {6, 9, 0, 1, 0, 0, 2, 32768, 0, 6, 8, 0};
+    static const uint16_t long_body[] = {0, 1, 65535, 0, 0, 0}, long_group[] = {0, 1, 1, 65535, 0, 0}, empty_group[] = {4, 1, 1, 0};
+    uint32_t head;
+    for (head = 0; head < 9; head++) check(line_of(none, sizeof none, head) == 0, "no line in zeros");
+    check(used(none, sizeof none) == 0, "no words in zeros");
+    check(used(mixed, sizeof mixed) == 3, "the words before line 0");
+    check(line_of(mixed, sizeof mixed, 1) == 0, "line 0");
+    check(line_of(mixed, sizeof mixed, 2) == 32768, "a line after line 0, both its bytes");
+    check(line_of(mixed, sizeof mixed, 6) == 9, "the first record of two");
+    check(line_of(mixed, sizeof mixed, 65536 + 6) == 0, "a head that is no word");
+    check(line_of(mixed, sizeof mixed, 0xffffffffu) == 0, "the largest head");
+    check(used(long_body, sizeof long_body) == 0 && line_of(long_body, sizeof long_body, 0) == 0, "65,535 groups");
+    check(used(long_group, sizeof long_group) == 0 && line_of(long_group, sizeof long_group, 0) == 0, "65,535 literals");
+    check(used(empty_group, sizeof empty_group) == 4 && line_of(empty_group, sizeof empty_group, 4) == 1, "a group of none");
+    check(record_end(mixed, sizeof mixed, 3) == 6 && record_end(mixed, sizeof mixed, 9) == 12, "a record in the midst");
+    check(record_end(mixed, sizeof mixed, SIZE_MAX) == 0 && record_end(mixed, sizeof mixed, SIZE_MAX / 2) == 0, "far outside");
+    check(used(NULL, 0) == 0 && line_of(NULL, 0, 0) == 0 && record_end(NULL, 0, 0) == 0, "no words");
+    check(simmerknot_words_used(NULL, 0) == 0 && simmerknot_line_of(NULL, 0, 0) == 0, "no words, and a null pointer");
+}
+
+/* 1,024 heads, 512 names and 8,192 words at once: 3 for a head, 2 for a literal alone, 3 for a group of two. */
+static void words_of_a_full_sheet(void) {
+    static char sheet[32768];
+    static uint8_t table[SIMMERKNOT_WORD_BUFFER_BYTES + 7], names[SIMMERKNOT_NAME_BUFFER_BYTES];
+    static uint8_t text[SIMMERKNOT_VALUE_SHEET_BYTES], valued[SIMMERKNOT_MOST_ATOMS];
+    size_t len = 0, used_bytes;
+    uint32_t head;
+    for (head = 0; head < 1024; head++) {
+        len += (size_t)sprintf(sheet + len, "%sn%u\tn0\tn0 n0\n", head % 2 ? "-" : "", (unsigned)(head / 2));
+    }
+    check(!simmerknot_refused(simmerknot_sheet((const uint8_t *)sheet, len, table, sizeof table, names, sizeof names,
+                                               text, sizeof text)), "the full sheet");
+    check(simmerknot_words_used(table, sizeof table) == 8192, "8,192 words");
+    check(simmerknot_words_used(table, 16384) == 8192, "a buffer that is full");
+    check(simmerknot_words_used(table, 16383) == 8184, "one that is cut short");
+    for (head = 0; head < 1024; head++) check(simmerknot_line_of(table, sizeof table, head) == head + 1, "a head's line");
+    check(simmerknot_line_of(table, sizeof table, 1024) == 0, "a literal that is in no sheet");
+    used_bytes = 2 * simmerknot_words_used(table, sizeof table);
+    check(simmerknot_evaluate(512, table, used_bytes, valued, sizeof valued) == 0, "its words, evaluated");
+    check(simmerknot_refused(simmerknot_sheet((const uint8_t *)sheet, len - 1, table, sizeof table, names, sizeof names,
+                                              text, sizeof text)), "a sheet that is refused");
+    check(simmerknot_words_used(table, sizeof table) == 0 && simmerknot_line_of(table, sizeof table, 0) == 0, "no words of it");
+}
+
 static void version(void) {
     char text[40];
     snprintf(text, sizeof text, "%d.%d.%d", SIMMERKNOT_VERSION_MAJOR, SIMMERKNOT_VERSION_MINOR, SIMMERKNOT_VERSION_PATCH);
@@ -94,6 +186,9 @@ int main(void) {
     answers();
     values();
     entries();
+    words_of_a_sheet();
+    words_made_by_hand();
+    words_of_a_full_sheet();
     version();
     printf("%d checks\n", passed);
     return 0;

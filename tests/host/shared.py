@@ -31,16 +31,31 @@ def read(sheet, room):
     names = ctypes.create_string_buffer(2048)
     text = ctypes.create_string_buffer(b"\7" * room, room)
     answer = library.simmerknot_sheet(sheet, len(sheet), words, 16384, names, 2048, text, room)
-    return answer, text.raw
+    return answer, text.raw, lines_in(words.raw)
+
+
+def lines_in(words):
+    """The line of each record of a sheet's words, up to the zeros."""
+    table = [int.from_bytes(words[at:at + 2], "little") for at in range(0, len(words), 2)]
+    lines, at = [], 0
+    while at + 3 <= len(table) and table[at + 1]:
+        lines.append(table[at + 1])
+        groups, at = table[at + 2], at + 3
+        for _ in range(groups):
+            at += 1 + table[at]
+    return lines
 
 
 major, minor, patch = (int(part) for part in sys.argv[2].split("."))
 same("version", library.simmerknot_version(), 1000000 * major + 1000 * minor + patch)
-same("p, -p, q", evaluate(3, [0, 0, 1, 0, 2, 0], 4), (0, b"\2\3\1\7"))
-same("second rule", evaluate(1, [0, 0, 0, 0], 1), ((7 << 32) + 2, b"\7"))
+same("p, -p, q", evaluate(3, [0, 1, 0, 1, 2, 0, 2, 3, 0], 4), (0, b"\2\3\1\7"))
+same("p, -p, q by hand", evaluate(3, [0, 0, 0, 1, 0, 0, 2, 0, 0], 4), (0, b"\2\3\1\7"))
+same("line 32,769", evaluate(1, [0, 32769, 0], 1), ((6 << 32) + 1, b"\7"))
+same("second rule", evaluate(1, [0, 0, 0, 0, 0, 0], 1), ((7 << 32) + 3, b"\7"))
 same("null pointers", library.simmerknot_evaluate(0, None, 0, None, 0), 0)
 same("null pointers", library.simmerknot_sheet(None, 0, None, 0, None, 0, None, 0), 9 << 32)
 season, values = (open(f"examples/season.{kind}", "rb").read() for kind in ("sheet", "values"))
-same("season", read(season, len(values) + 1), (len(values), values + b"\7"))
-same("no room", read(season, len(values) - 1), ((15 << 32) + len(values), b"\7" * (len(values) - 1)))
+numbers = list(range(1, 1 + season.count(b"\n")))
+same("season", read(season, len(values) + 1), (len(values), values + b"\7", numbers))
+same("no room", read(season, len(values) - 1), ((15 << 32) + len(values), b"\7" * (len(values) - 1), []))
 print(calls)

@@ -12,8 +12,37 @@ uint64_t __wrap_simmerknot_sheet(const uint8_t *sheet, size_t sheet_len, uint8_t
 
 static volatile uint8_t sink;
 
+static void put_line(uint8_t *words, size_t record, uint32_t line) {
+    words[2 * (record + SIMMERKNOT_LINE_AT)] = (uint8_t)(line % 256);
+    words[2 * (record + SIMMERKNOT_LINE_AT) + 1] = (uint8_t)(line / 256);
+}
+
+/* Every line above the least becomes the one before it. */
+static void lower_lines(uint8_t *words, size_t words_len, uint32_t least) {
+    const size_t used = simmerknot_words_used(words, words_len);
+    size_t at;
+    for (at = 0; at < used; at = simmerknot_record_end(words, words_len, at)) {
+        const uint32_t line = simmerknot_word(words, at + SIMMERKNOT_LINE_AT);
+        if (line > least) put_line(words, at, line - 1);
+    }
+}
+
+/* The table, with every line above 32,768 of a whole record taken for that. */
+static const uint8_t *cut_lines(const uint8_t *table, size_t table_len) {
+    static uint8_t cut[2 * SIMMERKNOT_MOST_WORDS + 2];
+    size_t at = 0, end = simmerknot_record_end(table, table_len, 0);
+    if (table_len > sizeof cut) return table;
+    if (table_len) memcpy(cut, table, table_len);
+    for (; end != 0; at = end, end = simmerknot_record_end(table, table_len, at)) {
+        if (simmerknot_word(table, at + SIMMERKNOT_LINE_AT) > SIMMERKNOT_MOST_LINE) put_line(cut, at, SIMMERKNOT_MOST_LINE);
+    }
+    return cut;
+}
+
 uint64_t __wrap_simmerknot_evaluate(uint64_t n, const uint8_t *table, size_t table_len, uint8_t *values, size_t values_len) {
     uint64_t answer;
+    /* 18: a line above 32,768 is taken */
+    if (FAULT == 18) table = cut_lines(table, table_len);
     /* 1, 2: one byte too many is read, behind the table or in front of it */
     if (FAULT == 1 && table_len) sink = table[table_len];
     if (FAULT == 2 && table_len) sink = *(table - 1);
@@ -24,6 +53,8 @@ uint64_t __wrap_simmerknot_evaluate(uint64_t n, const uint8_t *table, size_t tab
     if (FAULT == 3 && !simmerknot_refused(answer) && values_len > n) values[n] = 1;
     if (FAULT == 4 && simmerknot_refused(answer) && values_len) values[0] = 1;
     if (FAULT == 5 && table_len) ((uint8_t *)(uintptr_t)table)[0] = 0;
+    /* 17: a value rests on a line */
+    if (FAULT == 17 && !simmerknot_refused(answer) && n && table_len) values[0] ^= simmerknot_word(table, SIMMERKNOT_LINE_AT) / 32768;
     return answer;
 }
 
@@ -59,5 +90,8 @@ uint64_t __wrap_simmerknot_sheet(const uint8_t *sheet, size_t sheet_len, uint8_t
     if (FAULT == 8 && simmerknot_refused(answer) && names_len >= 4) names[0] = 1;
     if (FAULT == 9 && !simmerknot_refused(answer) && text_len > answer) text[answer] = 0;
     if (FAULT == 10 && words_len > 16387) memset(words + 16384, 7, 2);
+    /* 15: lines are counted from 0; 16: a record has the line of the one before */
+    if (FAULT == 15 && !simmerknot_refused(answer)) lower_lines(words, words_len, 0);
+    if (FAULT == 16 && !simmerknot_refused(answer)) lower_lines(words, words_len, 1);
     return answer;
 }

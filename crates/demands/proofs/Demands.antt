@@ -1,4 +1,5 @@
--- The three demands, about what the public entries promise: in the demands' order, and nothing else. Each is proved by the room it cites. Assumes nothing.
+-- The three demands, about what the public entries promise, in the demands' order, then what document 02 asks besides. Each is proved by the room it cites.
+-- Assumes nothing.
 use mathlib.Core.Bool.{true, false}
 use mathlib.Core.List.{List, [], _∷_, _++_}
 use mathlib.Core.Logic.{_↔_, _⊎_, ⊎-elim}
@@ -6,7 +7,7 @@ use mathlib.Core.Path.{_≡_, refl, sym, _∙_, subst⁻¹}
 use Prim.Native.Nat.{ℕ, _+_, _≤_, _<_, _/_}
 use lib.Dec.{leb}
 use lib.ListN.{length, getD, take, drop}
-use Rattle.limits.specs.Limits.{mostAtoms}
+use Rattle.limits.specs.Limits.{mostAtoms, mostLine}
 use Rattle.refusal.specs.declared.Refusal.{Refusal}
 use Rattle.refusal.specs.Numbers.{too-many-atoms, not-settled, text-room-too-small, not-a-truth-code}
 use Rattle.paper.specs.Table1.{Value, code, _and_, _or_, not′, _implies_}
@@ -23,8 +24,10 @@ use Rattle.truth.proofs.Laws.{one-answer, and-is-table-1, or-is-table-1, not-is
 use Rattle.refusal.specs.declared.Checked.{Checked}
 use Rattle.refusal.specs.declared.Checked.the-variants.{Accepted, Refused}
 use Rattle.words.specs.Check.{tableCheck, AcceptedTable}
-use Rattle.words.specs.Layout.{rulesOf, wordsOf}
-use Rattle.words.proofs.Laws.{check-determined, accepted-one-rule}
+use Rattle.words.specs.Layout.{TableRecord, recordsOf, rulesIn, rulesOf, wordsOf}
+use Rattle.words.specs.OnlyLines.{OnlyLinesDiffer}
+use Rattle.words.proofs.Laws.{check-determined, accepted-one-rule, accepted-within, wordsOf-recordsOf}
+use Rattle.words.proofs.OnlyLines.{Alike, only-lines-alike}
 use Rattle.bits.specs.Sets.{putIn}
 use Rattle.records.specs.Records.{recordFault, marksOf, noMarksFor, withMarks, FreshAllows, CountAllows}
 use Rattle.picks.specs.Faults.{pickFault, settledFault, reportFault}
@@ -37,18 +40,22 @@ use Rattle.picks.specs.Traces.{Picks, PickPasses}
 use Rattle.records.proofs.Laws as records
 use Rattle.picks.proofs.Determined as picks
 use Rattle.picks.proofs.Demand3 as rooms
+use Rattle.picks.proofs.OnlyLines.{pick-alike, settled-alike, report-alike}
 use Rattle.evaluation.specs.Evaluation.{evaluationFault, EvaluationAllows}
 use Rattle.evaluation.proofs.Evaluated as evaluated
 use Rattle.evaluation.proofs.Laws.{evaluation-determined}
+use Rattle.evaluation.proofs.OnlyLines.{evaluation-alike}
 use Rattle.demands.proofs.Report.{evaluation-equals-report}
 use Rattle.reader.specs.declared.Reading.{Reading}
 use Rattle.reader.specs.declared.Reading.the-variants.{End, Literal}
 use Rattle.reader.specs.declared.SheetLiteral.{SheetLiteral}
 use Rattle.reader.specs.declared.Next.{Next}
+use Rattle.reader.specs.declared.Role.the-variants.{Head}
+use Rattle.reader.specs.Sheet.{lineOf}
 use Rattle.reader.specs.Readings.{readingAt, nextAt, GivesOnly, NoLiteral, reached}
 use Rattle.reader.proofs.Laws as reader
 use Rattle.names.specs.Names.{bytesAt, nameOf}
-use Rattle.literals.specs.Literals.{Sofar}
+use Rattle.literals.specs.Literals.{Sofar, codeFor}
 use Rattle.sheetwords.specs.Sheets.{sheetOutcome}
 use Rattle.sheetwords.specs.Sheets as sheet
 use Rattle.sheetwords.proofs.Names.{read-to-the-end}
@@ -58,11 +65,12 @@ use Rattle.valuesheet.specs.Lines.{lines}
 use Rattle.sheets.specs.declared.SheetCounts.{SheetCounts}
 use Rattle.sheets.specs.declared.SheetAnswer.{SheetAnswer}
 use Rattle.sheets.specs.SheetEntry.{sheetOf, counts, SheetAllows}
-use Rattle.sheets.proofs.Laws.{sheet-one-rule, sheet-determined, Leaves, accepted-leaves, leaves-a-table}
-use Rattle.sheets.proofs.Lines.{as-many-lines, line-of-atom, literal-has-line, lines-differ, as-many-lines-left, line-left, literal-has-line-left, names-left-apart, literal-has-name-left, name-left-is-written}
+use Rattle.sheets.proofs.Laws.{sheet-one-rule, sheet-determined, Leaves, accepted-leaves, lines-left, leaves-a-table}
+use Rattle.sheets.proofs.Lines.{as-many-lines, line-of-atom, literal-has-line, lines-differ, as-many-lines-left, line-left, literal-has-line-left, names-left-apart, literal-has-name-left, name-left-is-written, head-has-record-left}
 use Rattle.host.specs.Bytes.{wordsIn, loneByte}
 use Rattle.host.specs.Evaluation.{hostFault, packed, HostEvaluation}
 use Rattle.host.proofs.Determined.{host-accepted, host-determined, host-answer-tells, zero-exactly-if-accepted}
+use Rattle.host.proofs.OnlyLines.{host-alike}
 use Rattle.hostsheet.specs.SheetBytes.{HostSheet, wordsOver, namesOver}
 use Rattle.hostsheet.proofs.Bounds.{answer-tells}
 use Rattle.hostsheet.proofs.Determined.{host-sheet-determined}
@@ -262,12 +270,12 @@ host-sheet-refused s words names text e o = host-sheet-determined s words names 
 -- so an answer tells its cause: the length of the value sheet, if the sheet is accepted and it fits, else the fault that the order finds, 15 last
 pub host-sheet-tells : (s words names text : List ℕ) {answer : ℕ} {ws ns text′ : List ℕ} → HostSheet s words names text answer ws ns text′
     → ((x : Sofar) × (I : Interpretation) × (sheetOutcome s (length words / 2) (length names / 4) ≡ sheet.accepted x)
-    × SmallestWellSupported (x .rules) I
+    × SmallestWellSupported (rulesIn (x .records)) I
     × (length (sheetOf s x I) ≤ length text) × (answer ≡ length (sheetOf s x I)) × (answer < 4294967296))
     ⊎ ((f : Refusal)
     × ((sheetOutcome s (length words / 2) (length names / 4) ≡ sheet.refused f)
     ⊎ ((x : Sofar) × (I : Interpretation) × (sheetOutcome s (length words / 2) (length names / 4) ≡ sheet.accepted x)
-    × SmallestWellSupported (x .rules) I
+    × SmallestWellSupported (rulesIn (x .records)) I
     × (length text < length (sheetOf s x I)) × (f ≡ text-room-too-small (length (sheetOf s x I)))))
     × (answer ≡ packed f) × (1 ≤ f .number) × (f .place < 4294967296))
 host-sheet-tells = answer-tells
@@ -300,20 +308,20 @@ host-evaluation-values N bytes room e o I i =
     host-determined N bytes room o (HostEvaluation.evaluated e I (smallest-by-test (rulesOf (wordsIn bytes)) one I .1 i))
 
 module _ (s : List ℕ) (wordRoom nameRoom : ℕ) (text : List ℕ) (x : Sofar) (read : sheetOutcome s wordRoom nameRoom ≡ sheet.accepted x) where
-  -- the words that an accepted sheet leaves are an accepted table for the N that it answers, with the sheet's rules
+  -- the words that an accepted sheet leaves are an accepted table for the N that it answers, with the sheet's records
   pub sheet-leaves-a-table : {c : SheetCounts} {ws ns text′ : List ℕ} → SheetAllows s wordRoom nameRoom text (SheetAnswer.Accepted c) ws ns text′
-      → AcceptedTable (c .atoms) (take (c .words) ws) × (rulesOf (take (c .words) ws) ≡ x .rules)
+      → AcceptedTable (c .atoms) (take (c .words) ws) × (recordsOf (take (c .words) ws) ≡ x .records)
   sheet-leaves-a-table {c} o = leaves-a-table s wordRoom nameRoom c _ _ _ (accepted-leaves s wordRoom nameRoom text o c refl) x read
 
-  module _ (I : Interpretation) (smallest : SmallestWellSupported (x .rules) I) where
+  module _ (I : Interpretation) (smallest : SmallestWellSupported (rulesIn (x .records)) I) where
     -- the value sheet by the written layout, with the values of the model ..
     pub sheet-values : {answer : SheetAnswer} {ws ns text′ : List ℕ}
         → length (sheetOf s x I) ≤ length text → SheetAllows s wordRoom nameRoom text answer ws ns text′
-        → (answer ≡ counts s x I) × (ws ≡ padded wordRoom (wordsOf (x .rules))) × (ns ≡ padded nameRoom (x .names))
+        → (answer ≡ counts s x I) × (ws ≡ padded wordRoom (wordsOf (x .records))) × (ns ≡ padded nameRoom (x .names))
         × (text′ ≡ sheetOf s x I ++ drop (length (sheetOf s x I)) text)
     sheet-values h o =
         sheet-determined s wordRoom nameRoom text o
-        (SheetAllows.accepted read (smallest-by-test (x .rules) (sheet-one-rule s wordRoom nameRoom x read) I .1 smallest) h)
+        (SheetAllows.accepted read (smallest-by-test (rulesIn (x .records)) (sheet-one-rule s wordRoom nameRoom x read) I .1 smallest) h)
 
     -- .. or 15, where it does not fit
     pub sheet-does-not-fit : {answer : SheetAnswer} {ws ns text′ : List ℕ}
@@ -322,18 +330,18 @@ module _ (s : List ℕ) (wordRoom nameRoom : ℕ) (text : List ℕ) (x : Sofar) 
         × (ws ≡ padded wordRoom []) × (ns ≡ padded nameRoom []) × (text′ ≡ text)
     sheet-does-not-fit h o =
         sheet-determined s wordRoom nameRoom text o
-        (SheetAllows.does-not-fit read (smallest-by-test (x .rules) (sheet-one-rule s wordRoom nameRoom x read) I .1 smallest) h)
+        (SheetAllows.does-not-fit read (smallest-by-test (rulesIn (x .records)) (sheet-one-rule s wordRoom nameRoom x read) I .1 smallest) h)
 
 -- and so does the host's, over bytes
 module _ (s words names text : List ℕ) (x : Sofar) (read : sheetOutcome s (length words / 2) (length names / 4) ≡ sheet.accepted x)
-    (I : Interpretation) (smallest : SmallestWellSupported (x .rules) I) where
+    (I : Interpretation) (smallest : SmallestWellSupported (rulesIn (x .records)) I) where
   pub host-sheet-values : {answer : ℕ} {ws ns text′ : List ℕ}
       → length (sheetOf s x I) ≤ length text → HostSheet s words names text answer ws ns text′
-      → (answer ≡ length (sheetOf s x I)) × (ws ≡ wordsOver (padded (length words / 2) (wordsOf (x .rules))) words)
+      → (answer ≡ length (sheetOf s x I)) × (ws ≡ wordsOver (padded (length words / 2) (wordsOf (x .records))) words)
       × (ns ≡ namesOver (padded (length names / 4) (x .names)) names) × (text′ ≡ sheetOf s x I ++ drop (length (sheetOf s x I)) text)
   host-sheet-values h o =
       let one = sheet-one-rule s (length words / 2) (length names / 4) x read in
-      host-sheet-determined s words names text o (HostSheet.answered (SheetAllows.accepted read (smallest-by-test (x .rules) one I .1 smallest) h))
+      host-sheet-determined s words names text o (HostSheet.answered (SheetAllows.accepted read (smallest-by-test (rulesIn (x .records)) one I .1 smallest) h))
 
   pub host-sheet-does-not-fit : {answer : ℕ} {ws ns text′ : List ℕ}
       → length text < length (sheetOf s x I) → HostSheet s words names text answer ws ns text′
@@ -341,7 +349,8 @@ module _ (s words names text : List ℕ) (x : Sofar) (read : sheetOutcome s (len
       × (ns ≡ namesOver (padded (length names / 4) []) names) × (text′ ≡ text)
   host-sheet-does-not-fit h o =
       let one = sheet-one-rule s (length words / 2) (length names / 4) x read in
-      host-sheet-determined s words names text o (HostSheet.answered (SheetAllows.does-not-fit read (smallest-by-test (x .rules) one I .1 smallest) h))
+      host-sheet-determined s words names text o
+      (HostSheet.answered (SheetAllows.does-not-fit read (smallest-by-test (rulesIn (x .records)) one I .1 smallest) h))
 
 -- every name has its line. By the counts that the sheet entry answers and the buffers that it leaves:
 module _ (s : List ℕ) (wordRoom nameRoom : ℕ) (text : List ℕ) {c : SheetCounts} {ws ns text′ : List ℕ}
@@ -367,6 +376,17 @@ module _ (s : List ℕ) (wordRoom nameRoom : ℕ) (text : List ℕ) {c : SheetCo
       → (i : ℕ) × (l : SheetLiteral) × (readingAt s (reached s 0 i) ≡ Literal l) × (nameOf s (getD ns a 0) ≡ bytesAt s (l .start) (l .len))
   name-has-a-literal = name-left-is-written s wordRoom nameRoom c ws ns text′ left
 
+  -- the records left stand in lines 1, 2, 3, ..: each line of the sheet has its record, and none is 0
+  pub sheet-records-by-line : (i : ℕ) (other : TableRecord) → i < length (recordsOf (take (c .words) ws))
+      → getD (recordsOf (take (c .words) ws)) i other .line ≡ i + 1
+  sheet-records-by-line = lines-left s wordRoom nameRoom c ws ns text′ left
+
+  -- and each head of the sheet has one in the line where it stands, with its sign and its name
+  pub head-has-its-record : (i : ℕ) (l : SheetLiteral) → readingAt s (reached s 0 i) ≡ Literal l → l .role ≡ Head
+      → (r : TableRecord) × (r ∈ recordsOf (take (c .words) ws)) × (r .line ≡ lineOf s (l .start))
+      × (a : ℕ) × (r .rule .head ≡ codeFor (l .negated) a) × (a < c .atoms) × (nameOf s (getD ns a 0) ≡ bytesAt s (l .start) (l .len))
+  head-has-its-record = head-has-record-left s wordRoom nameRoom c ws ns text′ left
+
   module _ (I : Interpretation) (smallest : SmallestWellSupported (rulesOf (take (c .words) ws)) I) where
     by-test : Smallest (rulesOf (take (c .words) ws)) I
     by-test =
@@ -386,7 +406,7 @@ module _ (s : List ℕ) (wordRoom nameRoom : ℕ) (text : List ℕ) {c : SheetCo
 
 -- and so for the host's, over bytes
 module _ (s words names text : List ℕ) (x : Sofar) (read : sheetOutcome s (length words / 2) (length names / 4) ≡ sheet.accepted x)
-    (I : Interpretation) (smallest : SmallestWellSupported (x .rules) I) {answer : ℕ} {ws ns text′ : List ℕ}
+    (I : Interpretation) (smallest : SmallestWellSupported (rulesIn (x .records)) I) {answer : ℕ} {ws ns text′ : List ℕ}
     (fits : length (sheetOf s x I) ≤ length text) (o : HostSheet s words names text answer ws ns text′) where
   pub host-value-sheet-lines : (length (lines (take answer text′)) ≡ length (x .names))
       × ((a : ℕ) → a < length (x .names) → getD (lines (take answer text′)) a [] ≡ lineFor s (getD (x .names) a 0) (code (value I (positive a))))
@@ -474,3 +494,40 @@ module _ (N : ℕ) (t : List ℕ) (accepted : AcceptedTable N t) {l : List ℕ} 
 pub n-passes-settle : (N : ℕ) (t : List ℕ) → AcceptedTable N t → {r : MarkRecord}
     → PickPasses t N N (noMarksFor N) r → Settled (rulesOf t) (marksOf r)
 n-passes-settle = rooms.n-passes-settle
+
+-- ---- Document 02, W2. Each record knows its line, and no answer depends on one.
+
+-- what the check accepts is the words of its records, and their lines are at most 32,768
+pub accepted-is-its-records : (N : ℕ) (t : List ℕ) → Accepted ≡ tableCheck N t
+    → (wordsOf (recordsOf t) ≡ t) × ((r : TableRecord) → r ∈ recordsOf t → r .line ≤ mostLine)
+accepted-is-its-records N t e = (wordsOf-recordsOf N t (sym e), accepted-within N t (sym e) .each-line)
+
+-- two accepted tables that differ only in line numbers, from each entry that is lent a table: equal answers, equal buffers
+module _ (N : ℕ) (t u : List ℕ) (accepted : AcceptedTable N t) (accepted′ : AcceptedTable N u) (only : OnlyLinesDiffer t u) where
+  alike : Alike t u
+  alike = only-lines-alike N t u accepted accepted′ only
+
+  pub check-without-lines : (M : ℕ) {x y : Checked} → x ≡ tableCheck M t → y ≡ tableCheck M u → x ≡ y
+  check-without-lines M e e′ = e ∙ alike .checks M ∙ sym e′
+
+  pub pick-without-lines : (r : MarkRecord) (a : ℕ) {x y : PickAnswer} {r′ r″ : MarkRecord}
+      → PickAllows r t a x r′ → PickAllows r u a y r″ → (x ≡ y) × (r′ ≡ r″)
+  pick-without-lines r = pick-alike r t u alike
+
+  pub settled-without-lines : (r : MarkRecord) {x y : Decided} → SettledAllows r t x → SettledAllows r u y → x ≡ y
+  settled-without-lines r = settled-alike r t u alike
+
+  pub report-without-lines : (r : MarkRecord) (room : List ℕ) {x y : Checked} {room′ room″ : List ℕ}
+      → ReportAllows r t room x room′ → ReportAllows r u room y room″ → (x ≡ y) × (room′ ≡ room″)
+  report-without-lines r = report-alike r t u alike
+
+  pub evaluation-without-lines : (M : ℕ) (room : List ℕ) {x y : Checked} {room′ room″ : List ℕ}
+      → EvaluationAllows M t room x room′ → EvaluationAllows M u room y room″ → (x ≡ y) × (room′ ≡ room″)
+  evaluation-without-lines M = evaluation-alike M t u alike
+
+-- and the host's, over bytes with or without a lone last one
+pub host-evaluation-without-lines : (N : ℕ) (b c : List ℕ) → AcceptedTable N (wordsIn b) → AcceptedTable N (wordsIn c)
+    → OnlyLinesDiffer (wordsIn b) (wordsIn c) → loneByte b ≡ loneByte c → (M : ℕ) (room : List ℕ) {x y : ℕ} {room′ room″ : List ℕ}
+    → HostEvaluation M b room x room′ → HostEvaluation M c room y room″ → (x ≡ y) × (room′ ≡ room″)
+host-evaluation-without-lines N b c accepted accepted′ only lone M =
+    host-alike M b c (only-lines-alike N (wordsIn b) (wordsIn c) accepted accepted′ only) lone

@@ -1,3 +1,4 @@
 pub mod Rounds
 pub mod Evaluated
 pub mod Laws
+pub mod OnlyLines

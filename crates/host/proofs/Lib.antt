@@ -1,3 +1,4 @@
 pub mod Bytes
 pub mod Evaluating
 pub mod Determined
+pub mod OnlyLines

@@ -8,6 +8,7 @@ use native.Mathlib.Omega.{arith}
 use lib.Dec.{leb, eqb}
 use lib.ListN.{length, drop}
 use borrow.Author.Tests.{leb-true}
+use Rattle.words.specs.Layout.{rulesIn}
 use Rattle.refusal.proofs.Laws.{demanding-holds}
 use Rattle.refusal.specs.declared.Refusal.{Refusal}
 use Rattle.refusal.specs.Numbers.{text-room-too-small}
@@ -167,16 +168,18 @@ has-room s wordRoom nameRoom text o g same = packs s wordRoom nameRoom text o g 
 
 -- the model that the promise names is the smallest for orders of any kind
 printed : (s : List ℕ) (wordRoom nameRoom : ℕ) (x : Sofar) (I : Interpretation)
-    → sheetOutcome s wordRoom nameRoom ≡ accepted x → Smallest (x .rules) I → SmallestWellSupported (x .rules) I
-printed s wordRoom nameRoom x I e i = smallest-by-test (x .rules) (sheet-one-rule s wordRoom nameRoom x e) I .0 i
+    → sheetOutcome s wordRoom nameRoom ≡ accepted x → Smallest (rulesIn (x .records)) I → SmallestWellSupported (rulesIn (x .records)) I
+printed s wordRoom nameRoom x I e i = smallest-by-test (rulesIn (x .records)) (sheet-one-rule s wordRoom nameRoom x e) I .0 i
 
 -- an answer tells its cause: the accepted sheet whose value sheet has that length and fits, or the fault that the written order finds, 15 last
 pub answer-tells : (s words names text : List ℕ) {a : ℕ} {ws ns text′ : List ℕ} → HostSheet s words names text a ws ns text′
-    → ((x : Sofar) × (I : Interpretation) × (sheetOutcome s (length words / 2) (length names / 4) ≡ accepted x) × SmallestWellSupported (x .rules) I
+    → ((x : Sofar) × (I : Interpretation) × (sheetOutcome s (length words / 2) (length names / 4) ≡ accepted x)
+    × SmallestWellSupported (rulesIn (x .records)) I
     × (length (sheetOf s x I) ≤ length text) × (a ≡ length (sheetOf s x I)) × (a < 4294967296))
     ⊎ ((f : Refusal)
     × ((sheetOutcome s (length words / 2) (length names / 4) ≡ refused f)
-    ⊎ ((x : Sofar) × (I : Interpretation) × (sheetOutcome s (length words / 2) (length names / 4) ≡ accepted x) × SmallestWellSupported (x .rules) I
+    ⊎ ((x : Sofar) × (I : Interpretation) × (sheetOutcome s (length words / 2) (length names / 4) ≡ accepted x)
+    × SmallestWellSupported (rulesIn (x .records)) I
     × (length text < length (sheetOf s x I)) × (f ≡ text-room-too-small (length (sheetOf s x I)))))
     × (a ≡ packed f) × (1 ≤ f .number) × (f .place < 4294967296))
 answer-tells s words names text (HostSheet.answered (SheetAllows.refused {f} e)) =

@@ -13,7 +13,7 @@ use Rattle.sets.proofs.Tests.{and-both}
 use Rattle.words.specs.Layout.{wordsOf}
 use Rattle.literals.specs.Literals.{Sofar}
 use Rattle.sheetwords.specs.Sheets.{accepted, sheetOutcome}
-use Rattle.sheetwords.proofs.Laws.{demanding-accepted}
+use Rattle.sheetwords.proofs.Through.{demanding-accepted}
 use Rattle.buffers.specs.Padded.{padded}
 use Rattle.sheetwords.proofs.Laws.{sheet-within}
 use Rattle.sheets.specs.declared.SheetAnswer.{SheetAnswer}
@@ -105,6 +105,6 @@ module _ (s : List ℕ) (w n : ℕ) (text : List ℕ) (size size′ : ℕ) where
       let is = sym (same-outcome s w n) ∙ e in
       let room = had-room s w n x is in
       let within = sheet-within s w n x is in
-      to (sym (sized-local size (roomFor 8192 w) w (wordsOf (x .rules)) (omega (arith, within .at-most-8192, room .0))))
+      to (sym (sized-local size (roomFor 8192 w) w (wordsOf (x .records)) (omega (arith, within .at-most-8192, room .0))))
       (sym (sized-local size′ (roomFor 512 n) n (x .names) (omega (arith, within .at-most-512, room .1))))
       (SheetAllows.accepted {x = x} {I = I} is i h)

@@ -17,7 +17,7 @@ use Rattle.bits.specs.Sets.{member, putIn}
 use Rattle.bits.proofs.Laws.{member-putIn-same, member-putIn-other, length-putIn, member-past, member-of-zeros}
 use Rattle.words.specs.Layout.{rulesOf}
 use Rattle.words.specs.Check.{AcceptedTable}
-use Rattle.words.proofs.Laws.{wordsOf-rulesOf, accepted-heads, accepted-atoms}
+use Rattle.words.proofs.Laws.{wordsOf-recordsOf, accepted-heads, accepted-atoms}
 use Rattle.least.specs.Passing.{ClosedOver, WithMarked, withPair, Records}
 
 -- an accepted table can be gone through
@@ -25,7 +25,7 @@ pub accepted-records : (N : ℕ) (t : List ℕ) → AcceptedTable N t → Record
 accepted-records N t a =
     record {
       inside = omega arith;
-      words = sym (wordsOf-rulesOf N t a);
+      words = sym (wordsOf-recordsOf N t a);
       heads = λ ρ m. let h = accepted-heads N t a ρ m in let k = accepted-atoms N t a in omega arith;
     }
 

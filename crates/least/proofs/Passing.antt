@@ -14,9 +14,9 @@ use Rattle.sets.proofs.Counting.{count-with}
 use Rattle.bits.specs.Sets.{member, putIn}
 use Rattle.bits.proofs.Laws.{member-putIn, length-putIn}
 use Rattle.words.specs.RecordAt.{WholeGroups, groupsIn, bodyFrom, ruleAt, afterRecord}
-use Rattle.words.specs.Layout.{takeGroups, dropGroups, wordsOf, rulesOf, bodyAt}
+use Rattle.words.specs.Layout.{TableRecord, takeGroups, dropGroups, wordsOf, recordsOf, rulesIn, rulesOf, bodyAt}
 use Rattle.words.proofs.Places.{RecordAt, record-at, some-record}
-use Rattle.words.proofs.Reading.{takeGroups-groupsWords, dropGroups-groupsWords, length-takeGroups, whole-groups, rulesOf-wordsOf}
+use Rattle.words.proofs.Reading.{takeGroups-groupsWords, dropGroups-groupsWords, length-takeGroups, whole-groups, recordsOf-wordsOf}
 use Rattle.least.specs.Walk.{GroupsSkipped, BodyRead, FiresAt}
 use Rattle.least.specs.Passing.{skips, adds, stepped, passed, Decided, Records, Moved, Passed}
 
@@ -43,37 +43,40 @@ fires-there S t at m fact firing next em w ef b =
 pub record Here (t : List ℕ) (at : ℕ) : Type 0 where
   pub inside : bodyAt at ≤ length t
   pub whole : WholeGroups (groupsIn t at) (bodyFrom t at)
-  pub rest : List Rule
-  pub rules : rulesOf (drop at t) ≡ ruleAt t at ∷ rest
+  pub rest : List TableRecord
+  pub rules : rulesOf (drop at t) ≡ ruleAt t at ∷ rulesIn rest
   pub after : afterRecord t at ≡ wordsOf rest
 
 pub here : (t : List ℕ) (at : ℕ) → at < length t → Records t at → Here t at
 here t at lt r =
-    let q = some-record t at (rulesOf (drop at t)) lt (r .words) in
-    let ρ : Rule = q .0 in
-    let R : List Rule = q .1 in
-    let e : drop at t ≡ wordsOf (ρ ∷ R) = r .words ∙ ap wordsOf (q .2) in
-    let p : RecordAt t at ρ R = record-at t at ρ R e in
+    let q = some-record t at (recordsOf (drop at t)) lt (r .words) in
+    let ρ : Rule = q .0 .rule in
+    let Q : List TableRecord = q .1 in
+    let p : RecordAt t at (q .0) Q = record-at t at (q .0) Q (r .words ∙ ap wordsOf (q .2)) in
     let groups : takeGroups (groupsIn t at) (bodyFrom t at) ≡ ρ .groups =
-    ap₂ takeGroups (p .count) (p .groups) ∙ takeGroups-groupsWords (ρ .groups) (wordsOf R)
+    ap₂ takeGroups (p .count) (p .groups) ∙ takeGroups-groupsWords (ρ .groups) (wordsOf Q)
     in
     record {
       inside = omega (arith, p .inside);
-      whole = rw (p .count, p .groups) (whole-groups (ρ .groups) (wordsOf R));
-      rest = R;
-      rules = q .2 ∙ ap₂ (λ (h : ℕ) (βs : List (List ℕ)). record { head = h; groups = βs } ∷ R) (sym (p .head)) (sym groups);
-      after = ap₂ dropGroups (p .count) (p .groups) ∙ dropGroups-groupsWords (ρ .groups) (wordsOf R);
+      whole = rw (p .count, p .groups) (whole-groups (ρ .groups) (wordsOf Q));
+      rest = Q;
+      rules = ap rulesIn (q .2)
+          ∙ ap₂ (λ (h : ℕ) (βs : List (List ℕ)). record { head = h; groups = βs } ∷ rulesIn Q) (sym (p .head)) (sym groups);
+      after = ap₂ dropGroups (p .count) (p .groups) ∙ dropGroups-groupsWords (ρ .groups) (wordsOf Q);
     }
 
 -- the records after it stand at `next`
-next-rules : (t : List ℕ) (at next : ℕ) (h : Here t at) → drop next t ≡ afterRecord t at → rulesOf (drop next t) ≡ h .rest
-next-rules t at next h e = ap rulesOf (e ∙ h .after) ∙ rulesOf-wordsOf (h .rest)
+next-are : (t : List ℕ) (at next : ℕ) (h : Here t at) → drop next t ≡ afterRecord t at → recordsOf (drop next t) ≡ h .rest
+next-are t at next h e = ap recordsOf (e ∙ h .after) ∙ recordsOf-wordsOf (h .rest)
+
+next-rules : (t : List ℕ) (at next : ℕ) (h : Here t at) → drop next t ≡ afterRecord t at → rulesOf (drop next t) ≡ rulesIn (h .rest)
+next-rules t at next h e = ap rulesIn (next-are t at next h e)
 
 next-records : (t : List ℕ) (at next : ℕ) (h : Here t at) → Records t at → next ≤ length t → drop next t ≡ afterRecord t at → Records t next
 next-records t at next h r le e =
     record {
       inside = le;
-      words = e ∙ h .after ∙ sym (ap wordsOf (next-rules t at next h e));
+      words = e ∙ h .after ∙ sym (ap wordsOf (next-are t at next h e));
       heads = λ ρ m. r .heads ρ (rw (h .rules) (List·Memᴰ·tail (subst (λ (R : List Rule). ρ ∈ R) (next-rules t at next h e) m)));
     }
 
@@ -151,7 +154,7 @@ decided-there A S t at head skip firing next eh es e f =
     }
 
 records-nothing : (t : List ℕ) (at : ℕ) → length t ≤ at → rulesOf (drop at t) ≡ []
-records-nothing t at h = ap rulesOf (lib.ListN.drop-of-length-le t h) ∙ Rattle.words.proofs.Reading.rulesOf-nothing
+records-nothing t at h = ap rulesOf (lib.ListN.drop-of-length-le t h) ∙ ap rulesIn Rattle.words.proofs.Reading.recordsOf-nothing
 
 pub moved-start : (A : Marks) (t s : List ℕ) → Records t 0 → Moved A t 0 s 0 false s
 moved-start A t s r =

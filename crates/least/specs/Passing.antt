@@ -12,7 +12,7 @@ use Rattle.paper.specs.Marking.{Marks, Unmarked, Least}
 use Rattle.sets.specs.Sets.{_with_, count}
 use Rattle.paper.specs.Fires.{fires}
 use Rattle.bits.specs.Sets.{member, putIn}
-use Rattle.words.specs.Layout.{rulesOf, wordsOf, bodyAt}
+use Rattle.words.specs.Layout.{recordsOf, rulesOf, wordsOf, bodyAt}
 use Rattle.words.specs.RecordAt.{ruleAt, afterRecord}
 
 -- a literal that is in the set, or whose atom is marked, is not added
@@ -41,7 +41,7 @@ pub record Decided (A : Marks) (S : ℕ → Bool) (t : List ℕ) (at : ℕ) (add
 -- from place `at` on stand records with heads among 1,024 literals
 pub record Records (t : List ℕ) (at : ℕ) : Type 0 where
   pub inside : at ≤ length t
-  pub words : drop at t ≡ wordsOf (rulesOf (drop at t))
+  pub words : drop at t ≡ wordsOf (recordsOf (drop at t))
   pub heads : HeadsBelow mostAtoms (rulesOf (drop at t))
 
 -- some records were passed: the same is still to be added, and a set that changed has more members

@@ -110,8 +110,8 @@ fn skip_record(table: &[u16], at: usize) -> usize
     requires { ⌜ (bodyAt at ≤ length (now table)) × WholeGroups (groupsIn (now table) at) (bodyFrom (now table) at) ⌝ }
     ensures { λ r. ⌜ GroupsSkipped (now (table .entry)) (bodyAt at) (groupsIn (now (table .entry)) at) r ⌝ }
 {
-    let m = words::word(table, at + words::GROUPS);
-    skip_groups(table, at + words::BODY, m)
+    let groups = words::word(table, at + words::GROUPS);
+    skip_groups(table, at + words::BODY, groups)
 }
 
 // A record was passed.

@@ -1,4 +1,4 @@
--- Believed: document 01's limits.
+-- Believed: the limits of documents 01 and 02.
 use Prim.Native.Nat.{ℕ}
 
 -- N is at most this
@@ -16,6 +16,10 @@ mostWords = 8192
 -- groups of a rule, and literals of a group
 abbrev pub mostInBody : ℕ
 mostInBody = 64
+
+-- a line number is at most this
+abbrev pub mostLine : ℕ
+mostLine = 32768
 
 abbrev pub mostNameBytes : ℕ
 mostNameBytes = 24

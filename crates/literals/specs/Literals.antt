@@ -1,29 +1,30 @@
--- Believed: what one literal of a sheet adds to names and rules, and its faults.
+-- Believed: what one literal of a sheet adds to names and records, and its faults.
 use mathlib.Core.List.{List, [], _∷_, _++_}
 use mathlib.Core.Bool.{Bool, true, false, not, cond}
 use Prim.Native.Nat.{ℕ, _+_}
 use lib.Dec.{leb, ltb, eqb}
 use lib.ListN.{length}
 use Rattle.limits.specs.Limits.{mostAtoms, mostWords, mostInBody}
-use Rattle.paper.specs.Rules.{Rule, positive, negative}
+use Rattle.paper.specs.Rules.{positive, negative}
 use Rattle.refusal.specs.Numbers.{too-many-names, second-rule, too-many-in-body, too-many-words}
 use Rattle.refusal.specs.declared.Checked.{Checked}
 use Rattle.refusal.specs.declared.Checked.the-variants.{Accepted}
 use Rattle.refusal.specs.Checks.{asking}
-use Rattle.words.specs.Layout.{bodyAt, afterOne}
+use Rattle.words.specs.Layout.{TableRecord, bodyAt, afterOne}
 use Rattle.reader.specs.declared.Role.{Role}
 use Rattle.reader.specs.declared.Role.the-variants.{Head, First, Further}
 use Rattle.reader.specs.declared.SheetLiteral.{SheetLiteral}
+use Rattle.reader.specs.Sheet.{lineOf}
 use Rattle.names.specs.Names.{bytesAt, entryFor, numberIn}
 
--- what the literals so far have given: name entries, rules, and the words counted
+-- what the literals so far have given: name entries, records, and the words counted
 pub record Sofar : Type 0 where
   pub names : List ℕ
-  pub rules : List Rule
+  pub records : List TableRecord
   pub words : ℕ
 
 abbrev pub nothing : Sofar
-nothing = record { names = []; rules = []; words = 0 }
+nothing = record { names = []; records = []; words = 0 }
 
 -- a list with its last element changed
 unfoldable pub onLast : {A : Type 0} → (A → A) → List A → List A
@@ -36,26 +37,27 @@ unfoldable pub lastOr : {A : Type 0} → A → List A → A
 lastOr other [] = other
 lastOr other (x ∷ l) = lastOr x l
 
-abbrev pub fact : ℕ → Rule
-fact c = record { head = c; groups = [] }
+-- the record that a head in line x begins: no group yet
+abbrev pub newRecord : ℕ → ℕ → TableRecord
+newRecord x c = record { line = x; rule = record { head = c; groups = [] } }
 
--- the groups of the last rule, and the last of them
-abbrev pub lastGroups : List Rule → List (List ℕ)
-lastGroups R = lastOr (fact 0) R .groups
+-- the groups of the last record, and the last of them
+abbrev pub lastGroups : List TableRecord → List (List ℕ)
+lastGroups Q = lastOr (newRecord 0 0) Q .rule .groups
 
-abbrev pub lastGroup : List Rule → List ℕ
-lastGroup R = lastOr [] (lastGroups R)
+abbrev pub lastGroup : List TableRecord → List ℕ
+lastGroup Q = lastOr [] (lastGroups Q)
 
-abbrev pub changeGroups : (List (List ℕ) → List (List ℕ)) → Rule → Rule
-changeGroups f ρ = record { head = ρ .head; groups = f (ρ .groups) }
+abbrev pub changeGroups : (List (List ℕ) → List (List ℕ)) → TableRecord → TableRecord
+changeGroups f r = record { line = r .line; rule = record { head = r .rule .head; groups = f (r .rule .groups) } }
 
--- a head begins a rule, the first literal of a group a group of the last rule, a further one joins its last group
-unfoldable pub withLiteral : Role → ℕ → List Rule → List Rule
-withLiteral Head c R = R ++ (fact c ∷ [])
-withLiteral First c R = onLast (changeGroups (λ βs. βs ++ ((c ∷ []) ∷ []))) R
-withLiteral Further c R = onLast (changeGroups (onLast (λ β. β ++ (c ∷ [])))) R
+-- a head in line x begins a record, the first literal of a group a group of the last record, a further one joins its last group
+unfoldable pub withLiteral : Role → ℕ → ℕ → List TableRecord → List TableRecord
+withLiteral Head x c Q = Q ++ (newRecord x c ∷ [])
+withLiteral First x c Q = onLast (changeGroups (λ βs. βs ++ ((c ∷ []) ∷ []))) Q
+withLiteral Further x c Q = onLast (changeGroups (onLast (λ β. β ++ (c ∷ [])))) Q
 
--- words counted: 2 for a head, 2 for the first literal of a group, 1 for a further one
+-- words counted: 3 for a head, 2 for the first literal of a group, 1 for a further one
 abbrev pub wordsFor : Role → ℕ
 wordsFor Head = bodyAt 0
 wordsFor First = afterOne 0
@@ -80,14 +82,14 @@ withName a l names = cond (ltb a (length names)) names (names ++ (entryFor (l .s
 unfoldable pub after : List ℕ → Sofar → SheetLiteral → Sofar
 after s sofar l = record {
   names = withName (atomOf s (sofar .names) l) l (sofar .names);
-  rules = withLiteral (l .role) (codeOf s (sofar .names) l) (sofar .rules);
+  records = withLiteral (l .role) (lineOf s (l .start)) (codeOf s (sofar .names) l) (sofar .records);
   words = sofar .words + wordsFor (l .role);
 }
 
--- is a literal the head of a rule
-unfoldable pub isHead : List Rule → ℕ → Bool
+-- is a literal the head of a record
+unfoldable pub isHead : List TableRecord → ℕ → Bool
 isHead [] c = false
-isHead (ρ ∷ R) c = cond (eqb c (ρ .head)) true (isHead R c)
+isHead (r ∷ Q) c = cond (eqb c (r .rule .head)) true (isHead Q c)
 
 -- a second rule for a head
 abbrev pub repeats : Role → (ℕ → Bool) → ℕ → Bool
@@ -111,5 +113,5 @@ faultWith names repeated body words p q =
 
 unfoldable pub literalFault : List ℕ → ℕ → Sofar → SheetLiteral → Checked
 literalFault s p sofar l =
-    faultWith (length (after s sofar l .names)) (repeats (l .role) (isHead (sofar .rules)) (codeOf s (sofar .names) l))
-    (inBody (l .role) (length (lastGroups (sofar .rules))) (length (lastGroup (sofar .rules)))) (after s sofar l .words) p (l .start)
+    faultWith (length (after s sofar l .names)) (repeats (l .role) (isHead (sofar .records)) (codeOf s (sofar .names) l))
+    (inBody (l .role) (length (lastGroups (sofar .records))) (length (lastGroup (sofar .records)))) (after s sofar l .words) p (l .start)

@@ -10,7 +10,7 @@ use Rattle.refusal.specs.declared.Refusal.{Refusal}
 use Rattle.bits.specs.Sets.{putIn, member}
 use Rattle.refusal.specs.declared.Checked.{Checked}
 use Rattle.refusal.specs.declared.Checked.the-variants.{Accepted, Refused as Faulty}
-use Rattle.words.specs.Layout.{groupsAt, bodyAt, literalsAt, afterOne}
+use Rattle.words.specs.Layout.{lineNumberAt, groupsAt, bodyAt, literalsAt, afterOne}
 use Rattle.words.specs.RecordAt.{groupsIn}
 use Rattle.reader.specs.declared.Role.{Role}
 use Rattle.reader.specs.declared.Role.the-variants.{Head, First, Further}
@@ -25,11 +25,11 @@ use Rattle.literals.specs.Literals.{wordsFor, atomOf, codeOf, repeats, i
 abbrev pub namesWith : ℕ → ℕ → ℕ
 namesWith a atoms = cond (ltb a atoms) atoms (atoms + 1)
 
--- the word buffer with one literal more: m or k grows where it stands
-abbrev pub putWords : Role → ℕ → Counts → List ℕ → List ℕ
-putWords Head c k ws = set ws (k .words) c
-putWords First c k ws = set (set (set ws (groupsAt (k .rule)) (getD ws (groupsAt (k .rule)) 0 + 1)) (k .words) 1) (literalsAt (k .words)) c
-putWords Further c k ws = set (set ws (k .group) (getD ws (k .group) 0 + 1)) (k .words) c
+-- the word buffer with one literal more, a head's in line x: m or k grows where it stands
+abbrev pub putWords : Role → ℕ → ℕ → Counts → List ℕ → List ℕ
+putWords Head x c k ws = set (set ws (k .words) c) (lineNumberAt (k .words)) x
+putWords First x c k ws = set (set (set ws (groupsAt (k .rule)) (getD ws (groupsAt (k .rule)) 0 + 1)) (k .words) 1) (literalsAt (k .words)) c
+putWords Further x c k ws = set (set ws (k .group) (getD ws (k .group) 0 + 1)) (k .words) c
 
 -- the name buffer with the name of number a
 abbrev pub putName : ℕ → ℕ → ℕ → List ℕ → List ℕ
@@ -41,16 +41,17 @@ putHead Head c heads = putIn heads c
 putHead First c heads = heads
 putHead Further c heads = heads
 
--- the counts with one literal more
+-- the counts with one literal more; each head stands in a line of its own
 abbrev pub counted : Role → ℕ → Counts → Counts
-counted Head a k = record { atoms = namesWith a (k .atoms); words = bodyAt (k .words); rule = k .words; group = k .group }
-counted First a k = record { atoms = namesWith a (k .atoms); words = afterOne (k .words); rule = k .rule; group = k .words }
-counted Further a k = record { atoms = namesWith a (k .atoms); words = k .words + 1; rule = k .rule; group = k .group }
+counted Head a k = record { atoms = namesWith a (k .atoms); words = bodyAt (k .words); line = k .line + 1; rule = k .words; group = k .group }
+counted First a k = record { atoms = namesWith a (k .atoms); words = afterOne (k .words); line = k .line; rule = k .rule; group = k .words }
+counted Further a k = record { atoms = namesWith a (k .atoms); words = k .words + 1; line = k .line; rule = k .rule; group = k .group }
 
 -- room for what has been counted
 pub record Room (k : Counts) (ws ns : List ℕ) : Type 0 where
   pub atoms : k .atoms ≤ mostAtoms
   pub words : k .words ≤ mostWords
+  pub line : k .line ≤ k .words
   pub rule : bodyAt (k .rule) ≤ mostWords
   pub group : literalsAt (k .group) ≤ mostWords
   pub word-buffer : mostWords ≤ length ws
@@ -78,7 +79,7 @@ faultIn s k ws names heads p l = faultBy (atomIn s k names l) (codeIn s k names 
 -- a literal of number a and code c has been put into the buffers
 pub record Put (a c : ℕ) (l : SheetLiteral) (k : Counts) (ws names heads : List ℕ) (k′ : Counts) (ws′ names′ heads′ : List ℕ) : Type 0 where
   pub counts-are : k′ ≡ counted (l .role) a k
-  pub words-are : ws′ ≡ putWords (l .role) c k ws
+  pub words-are : ws′ ≡ putWords (l .role) (k .line + 1) c k ws
   pub names-are : names′ ≡ putName a (k .atoms) (entryFor (l .start) (l .len)) names
   pub heads-are : heads′ ≡ putHead (l .role) c heads
 

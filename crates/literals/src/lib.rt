@@ -7,7 +7,7 @@ ghost use Prim.Native.Nat.{_+_, _<_, _≤_};
 ghost use lib.ListN.{length, getD};
 ghost use Rattle.limits.specs.Limits.{mostAtoms, mostWords, mostInBody, mostNameBytes, mostSheetBytes};
 ghost use Rattle.bits.specs.Sets.{member};
-ghost use Rattle.words.specs.Layout.{groupsAt, bodyAt, literalsAt};
+ghost use Rattle.words.specs.Layout.{lineNumberAt, groupsAt, bodyAt, literalsAt};
 ghost use Rattle.words.specs.RecordAt.{groupsIn};
 ghost use Rattle.refusal.specs.Numbers.{refusal};
 ghost use Rattle.names.specs.Names.{entryFor};
@@ -20,10 +20,11 @@ pub enum Taken {
     Off(Refusal),
 }
 
-// The names and words so far, the place of the last record and that of its last group.
+// The names and words so far, the line and the place of the last record, and the place of its last group.
 pub struct Counts {
     pub atoms: usize,
     pub words: usize,
+    pub line: usize,
     pub rule: usize,
     pub group: usize,
 }
@@ -92,7 +93,7 @@ fn body_with(role: Role, words: &[u16], counts: Counts) -> usize
 
 fn words_for(role: Role) -> usize
     ensures { λ r. ⌜ r ≡ wordsFor role ⌝ }
-    ensures { λ r. ⌜ r ≤ 2 ⌝ }
+    ensures { λ r. ⌜ r ≤ 3 ⌝ }
 {
     match role {
         Role::Head => words::BODY,
@@ -125,12 +126,14 @@ fn fault_of(
 }
 
 fn put_head(words: &mut [u16], counts: Counts, code: usize)
-    requires { ⌜ counts .words < length (now words) ⌝ }
+    requires { ⌜ lineNumberAt (counts .words) < length (now words) ⌝ }
+    requires { ⌜ counts .line < 65535 ⌝ }
     requires { ⌜ code < 65536 ⌝ }
-    ensures { λ _. ⌜ now (words .exit) ≡ putWords Role.Head code counts (now (words .entry)) ⌝ }
+    ensures { λ _. ⌜ now (words .exit) ≡ putWords Role.Head (counts .line + 1) code counts (now (words .entry)) ⌝ }
 {
     let w = counts.words;
     words[w] = code as u16;
+    words[w + words::LINE] = (counts.line + 1) as u16;
 }
 
 fn put_first(words: &mut [u16], counts: Counts, code: usize)
@@ -138,7 +141,7 @@ fn put_first(words: &mut [u16], counts: Counts, code: usize)
     requires { ⌜ groupsAt (counts .rule) < length (now words) ⌝ }
     requires { ⌜ groupsIn (now words) (counts .rule) < 65535 ⌝ }
     requires { ⌜ code < 65536 ⌝ }
-    ensures { λ _. ⌜ now (words .exit) ≡ putWords Role.First code counts (now (words .entry)) ⌝ }
+    ensures { λ _. ⌜ now (words .exit) ≡ putWords Role.First (counts .line + 1) code counts (now (words .entry)) ⌝ }
 {
     let m = counts.rule + words::GROUPS;
     let w = counts.words;
@@ -152,7 +155,7 @@ fn put_further(words: &mut [u16], counts: Counts, code: usize)
     requires { ⌜ counts .group < length (now words) ⌝ }
     requires { ⌜ getD (now words) (counts .group) 0 < 65535 ⌝ }
     requires { ⌜ code < 65536 ⌝ }
-    ensures { λ _. ⌜ now (words .exit) ≡ putWords Role.Further code counts (now (words .entry)) ⌝ }
+    ensures { λ _. ⌜ now (words .exit) ≡ putWords Role.Further (counts .line + 1) code counts (now (words .entry)) ⌝ }
 {
     let k = counts.group;
     let w = counts.words;
@@ -162,11 +165,12 @@ fn put_further(words: &mut [u16], counts: Counts, code: usize)
 
 fn put_words(role: Role, words: &mut [u16], counts: Counts, code: usize)
     requires { ⌜ counts .words + wordsFor role ≤ length (now words) ⌝ }
+    requires { ⌜ counts .line < 65535 ⌝ }
     requires { ⌜ groupsAt (counts .rule) < length (now words) ⌝ }
     requires { ⌜ counts .group < length (now words) ⌝ }
     requires { ⌜ bodyIn role counts (now words) ≤ mostInBody ⌝ }
     requires { ⌜ code < 65536 ⌝ }
-    ensures { λ _. ⌜ now (words .exit) ≡ putWords role code counts (now (words .entry)) ⌝ }
+    ensures { λ _. ⌜ now (words .exit) ≡ putWords role (counts .line + 1) code counts (now (words .entry)) ⌝ }
 {
     match role {
         Role::Head => put_head(words, counts, code),
@@ -199,28 +203,33 @@ fn note_head(role: Role, heads: &mut [u64], code: usize)
 fn count_on(role: Role, atom: usize, counts: Counts) -> Counts
     requires { ⌜ counts .atoms ≤ mostAtoms ⌝ }
     requires { ⌜ counts .words ≤ mostWords ⌝ }
+    requires { ⌜ counts .line ≤ mostWords ⌝ }
     ensures { λ r. ⌜ r ≡ counted role atom counts ⌝ }
 {
     let atoms = names_with(atom, counts.atoms);
     let words = counts.words;
+    let line = counts.line;
     let rule = counts.rule;
     let group = counts.group;
     match role {
         Role::Head => Counts {
             atoms,
             words: words + words::BODY,
+            line: line + 1,
             rule: words,
             group,
         },
         Role::First => Counts {
             atoms,
             words: words + words::ONE_LITERAL,
+            line,
             rule,
             group: words,
         },
         Role::Further => Counts {
             atoms,
             words: words + 1,
+            line,
             rule,
             group,
         },

@@ -3,3 +3,4 @@ pub mod Tracing
 pub mod Faultless
 pub mod Demand3
 pub mod Determined
+pub mod OnlyLines

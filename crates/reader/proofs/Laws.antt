@@ -1,14 +1,14 @@
 -- What the reader says of every sheet: what it tells of a literal, which refusals it gives, where it stands still, and that it ends.
-use mathlib.Core.Path.{_≡_, refl, sym, ap, _∙_, subst}
+use mathlib.Core.Path.{_≡_, refl, sym, ap, ap₂, _∙_, subst}
 use mathlib.Core.Logic.{inl, inr}
 use mathlib.Core.List.{List}
-use mathlib.Core.Bool.{Bool, true, false, cond, _||_}
-use Prim.Native.Nat.{ℕ, zero, suc, _+_, _^_, _<_, _≤_}
+use mathlib.Core.Bool.{Bool, true, false, cond, _||_, true≢false}
+use Prim.Native.Nat.{ℕ, zero, suc, _+_, _-_, _^_, _<_, _≤_}
 use native.Mathlib.Numerals.{add-one}
 use native.Mathlib.Omega.{arith}
 use lib.Dec.{leb, eqb}
 use lib.ListN.{length, drop}
-use borrow.Author.Tests.{leb-true, eqb-true}
+use borrow.Author.Tests.{leb-true, eqb-true, ne-eqb}
 use Rattle.refusal.specs.declared.Refusal.{Refusal}
 use Rattle.refusal.specs.Numbers.{wrong-byte}
 use Rattle.reader.specs.declared.Role.{Role}
@@ -17,7 +17,7 @@ use Rattle.reader.specs.declared.SheetLiteral.{SheetLiteral}
 use Rattle.reader.specs.declared.Next.{Next}
 use Rattle.reader.specs.declared.Reading.{Reading}
 use Rattle.reader.specs.declared.Reading.the-variants.{End, Refused, Literal}
-use Rattle.reader.specs.Sheet.{byteAt, isTab, isLineEnd, isSpace, isMinus, startsName, isDigit, continuesName, nameRun, mayFollow, byteBefore}
+use Rattle.reader.specs.Sheet.{byteAt, isTab, isLineEnd, isSpace, isMinus, startsName, isDigit, continuesName, nameRun, mayFollow, byteBefore, lineOf}
 use Rattle.refusal.specs.Checks.{demanding}
 use Rattle.refusal.proofs.Laws.{demanding-met, demanding-holds}
 use Rattle.reader.specs.Readings.{endedName, nameAt, literalAt, lineAt, readingAfter, readingAt, placeAfter, nextAt, ReadersNumber, GivesOnly, NoLiteral, reached}
@@ -43,6 +43,7 @@ RoleAfter b Further = b ≡ 32
 pub record Named (s : List ℕ) (p : ℕ) (role : Role) (l : SheetLiteral) : Type 0 where
   pub starts-at : p ≤ l .start
   pub starts-by : l .start ≤ p + 1
+  pub minus-before : (i : ℕ) → p ≤ i → i < l .start → isMinus (byteAt s i) ≡ true
   pub not-empty : 1 ≤ l .len
   pub at-most-24 : l .len ≤ 24
   pub inside : l .start + l .len < length s
@@ -68,10 +69,11 @@ starts-continues b e = ap (λ (x : Bool). x || (isDigit b || (eqb b 95 || eqb b 
 run-not-empty : (s : List ℕ) (q : ℕ) → startsName (byteAt s q) ≡ true → 1 ≤ nameRun (drop q s)
 run-not-empty s q e = omega (arith, run-on s q (starts-continues (byteAt s q) e))
 
-named-ended : (s : List ℕ) (p q n : ℕ) (negated : Bool) (role : Role) (l : SheetLiteral) → p ≤ q → q ≤ p + 1 → 1 ≤ n
+named-ended : (s : List ℕ) (p q n : ℕ) (negated : Bool) (role : Role) (l : SheetLiteral) → p ≤ q → q ≤ p + 1
+    → ((i : ℕ) → p ≤ i → i < q → isMinus (byteAt s i) ≡ true) → 1 ≤ n
     → ((i : ℕ) → i < n → continuesName (byteAt s (q + i)) ≡ true) → endedName s q n negated role ≡ Literal l → Named s p role l
 unfolding endedName
-named-ended s p q n negated role l h h′ some run e =
+named-ended s p q n negated role l h h′ minus some run e =
     let first = demanding-literal (leb n 24) _ _ l e in
     let second = demanding-literal (mayFollow role (byteAt s (q + n))) _ _ l (first .1) in
     let same : record { negated = negated; start = q; len = n; role = role } ≡ l = cc (second .1) in
@@ -79,6 +81,7 @@ named-ended s p q n negated role l h h′ some run e =
     (record {
       starts-at = h;
       starts-by = h′;
+      minus-before = minus;
       not-empty = some;
       at-most-24 = leb-true n 24 (first .0);
       inside = inside-by (mayFollow role) (nothing-follows-the-end role) s (q + n) (second .0);
@@ -88,19 +91,22 @@ named-ended s p q n negated role l h h′ some run e =
     })
 
 named-name : (s : List ℕ) (p q : ℕ) (negated : Bool) (role : Role) (l : SheetLiteral) → p ≤ q → q ≤ p + 1
-    → nameAt s q negated role ≡ Literal l → Named s p role l
+    → ((i : ℕ) → p ≤ i → i < q → isMinus (byteAt s i) ≡ true) → nameAt s q negated role ≡ Literal l → Named s p role l
 unfolding nameAt
-named-name s p q negated role l h h′ e =
+named-name s p q negated role l h h′ minus e =
     let first = demanding-literal (startsName (byteAt s q)) _ _ l e in
-    named-ended s p q (nameRun (drop q s)) negated role l h h′ (run-not-empty s q (first .0)) (run-bytes s q) (first .1)
+    named-ended s p q (nameRun (drop q s)) negated role l h h′ minus (run-not-empty s q (first .0)) (run-bytes s q) (first .1)
 
 named-literal : (s : List ℕ) (p : ℕ) (role : Role) (l : SheetLiteral) → literalAt s p role ≡ Literal l → Named s p role l
 unfolding literalAt
-named-literal s p role l e = by (isMinus (byteAt s p)) e
+named-literal s p role l e = by (isMinus (byteAt s p)) refl e
   where
-    by : (b : Bool) → cond b (nameAt s (p + 1) true role) (nameAt s p false role) ≡ Literal l → Named s p role l
-    by true f = named-name s p (p + 1) true role l (omega arith) (omega arith) f
-    by false f = named-name s p p false role l (omega arith) (omega arith) f
+    here : isMinus (byteAt s p) ≡ true → (i : ℕ) → p ≤ i → i < p + 1 → isMinus (byteAt s i) ≡ true
+    here q i h h′ = let same : i ≡ p = omega arith in ap (λ (x : ℕ). isMinus (byteAt s x)) same ∙ q
+
+    by : (b : Bool) → isMinus (byteAt s p) ≡ b → cond b (nameAt s (p + 1) true role) (nameAt s p false role) ≡ Literal l → Named s p role l
+    by true q f = named-name s p (p + 1) true role l (omega arith) (omega arith) (here q) f
+    by false q f = named-name s p p false role l (omega arith) (omega arith) (λ i h h′. absurd (omega arith)) f
 
 -- a literal's role is the one that it was read with
 in-role-of : (s : List ℕ) (p b : ℕ) (role : Role) (l : SheetLiteral) → length s ≤ 65536 → byteBefore s p ≡ b → RoleAfter b role
@@ -166,6 +172,45 @@ place-fits s p End h e = h
 place-fits s p (Refused r) h e = h
 place-fits s p (Literal l) h e =
     omega (arith, literal-read s p l (sym e) .sheet-fits, literal-read s p l (sym e) .named .inside)
+
+-- no line ends in a name, nor by "-"
+name-no-end : (b : ℕ) → continuesName b ≡ true → isLineEnd b ≡ false
+unfolding continuesName startsName isDigit
+name-no-end b e = ne-eqb b 10 (λ is. absurd (true≢false (sym e ∙ ap continuesName is)))
+
+minus-no-end : (b : ℕ) → isMinus b ≡ true → isLineEnd b ≡ false
+minus-no-end b e = ap isLineEnd (eqb-true b 45 e)
+
+-- the first line is 1
+pub first-line : (s : List ℕ) → lineOf s 0 ≡ 1
+unfolding lineOf
+first-line s = refl
+
+-- where no line ends the line stays
+line-stays : (s : List ℕ) (p n : ℕ) → ((i : ℕ) → i < n → isLineEnd (byteAt s (p + i)) ≡ false) → lineOf s (p + n) ≡ lineOf s p
+unfolding lineOf
+line-stays s p zero none = let same : p + 0 ≡ p = omega arith in ap (lineOf s) same
+line-stays s p (suc n) none =
+    let more : p + suc n ≡ suc (p + n) = omega arith in
+    ap (lineOf s) more ∙ ap (λ (b : Bool). cond b (suc (lineOf s (p + n))) (lineOf s (p + n))) (none n (omega arith))
+    ∙ line-stays s p n (λ i h. none i (omega arith))
+
+-- the line of a literal is that of its name, and of the byte after it
+module _ (s : List ℕ) (p : ℕ) (l : SheetLiteral) (e : readingAt s p ≡ Literal l) where
+  pub literal-line : lineOf s (l .start) ≡ lineOf s p
+  literal-line =
+      let r = literal-read s p l e .named in
+      let there : l .start ≡ p + (l .start - p) = omega (arith, r .starts-at) in
+      ap (lineOf s) there ∙ line-stays s p (l .start - p) (λ i h. minus-no-end (byteAt s (p + i)) (r .minus-before (p + i) (omega arith) (omega arith)))
+
+  pub next-line : lineOf s (placeAfter (Literal l) p)
+      ≡ cond (isLineEnd (byteBefore s (placeAfter (Literal l) p))) (suc (lineOf s p)) (lineOf s p)
+  unfolding lineOf placeAfter
+  next-line =
+      let r = literal-read s p l e .named in
+      let end = line-stays s (l .start) (l .len) (λ i h. name-no-end (byteAt s (l .start + i)) (r .in-run i h)) ∙ literal-line in
+      ap (lineOf s) (add-one (l .start + l .len))
+      ∙ ap₂ (λ (b : ℕ) (x : ℕ). cond (isLineEnd b) (suc x) x) (sym (next-after s p l)) end
 
 -- what holds of every refusal by 8, 10 or 11, of every literal, and of the end at the sheet's end, holds of every reading
 module _ (P : Reading → Type 0) (refusals : (r : Refusal) → ReadersNumber (r .number) → P (Refused r)) (literals : (l : SheetLiteral) → P (Literal l))

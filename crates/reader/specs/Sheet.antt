@@ -1,4 +1,4 @@
--- Believed: which byte of a sheet may stand where.
+-- Believed: which byte of a sheet may stand where, and the line of a place.
 use mathlib.Core.List.{List, [], _∷_}
 use mathlib.Core.Bool.{Bool, _&&_, _||_, cond}
 use Prim.Native.Nat.{ℕ, zero, suc}
@@ -53,3 +53,8 @@ mayFollow Further b = isSpace b || (isTab b || isLineEnd b)
 unfoldable pub byteBefore : List ℕ → ℕ → ℕ
 byteBefore s zero = 10
 byteBefore s (suc p) = byteAt s p
+
+-- the line of a place, from 1: one more with each line that has ended before it
+unfoldable pub lineOf : List ℕ → ℕ → ℕ
+lineOf s zero = 1
+lineOf s (suc p) = cond (isLineEnd (byteAt s p)) (suc (lineOf s p)) (lineOf s p)

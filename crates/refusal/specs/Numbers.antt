@@ -1,4 +1,4 @@
--- Believed: the numbers of refusal: when each is given and at which place, in document 01's words and order.
+-- Believed: the numbers of refusal: when each is given and at which place, in the words and order of documents 01 and 02.
 use Prim.Native.Nat.{ℕ}
 use Rattle.refusal.specs.declared.Refusal.{Refusal}
 
@@ -25,9 +25,9 @@ cut-short words = refusal 4 words
 abbrev pub not-a-literal : ℕ → Refusal
 not-a-literal word = refusal 5 word
 
--- 6: m above 64, or k 0 or above 64; place: that word
-abbrev pub wrong-length : ℕ → Refusal
-wrong-length word = refusal 6 word
+-- 6: m above 64, or k 0 or above 64, or a line number above 32,768; place: that word
+abbrev pub out-of-range : ℕ → Refusal
+out-of-range word = refusal 6 word
 
 -- 7: second rule for one head; place: the head (word, or byte of the literal)
 abbrev pub second-rule : ℕ → Refusal

@@ -2,7 +2,7 @@ ghost use mathlib.Core.Path.{_≡_};
 ghost use Rattle.refusal.specs.Numbers.{refusal};
 ghost use Rattle.refusal.specs.Checks.{orElse};
 
-// A refusal: one of document 01's numbers, and the place that it names.
+// A refusal: one of the documents' numbers, and the place that it names.
 pub struct Refusal {
     pub number: u64,
     pub place: u64,
@@ -65,7 +65,7 @@ pub const CUT_SHORT: u64 = 4;
 
 pub const NOT_A_LITERAL: u64 = 5;
 
-pub const WRONG_LENGTH: u64 = 6;
+pub const OUT_OF_RANGE: u64 = 6;
 
 pub const SECOND_RULE: u64 = 7;
 

@@ -7,10 +7,10 @@ use native.Mathlib.Omega.{arith}
 use lib.ListN.{length, getD, take}
 use Rattle.refusal.specs.declared.Refusal.{Refusal}
 use Rattle.paper.specs.Table1.{code}
-use Rattle.paper.specs.Rules.{Rule, positive}
+use Rattle.paper.specs.Rules.{positive}
 use Rattle.paper.specs.Definitions.{value, Smallest}
 use Rattle.refusal.specs.declared.Checked.the-variants.{Accepted}
-use Rattle.words.specs.Layout.{wordsOf, rulesOf}
+use Rattle.words.specs.Layout.{TableRecord, wordsOf, recordsOf, rulesIn}
 use Rattle.refusal.proofs.Laws.{refused≢accepted}
 use Rattle.refusal.specs.declared.Checked.{Checked}
 use Rattle.evaluation.specs.Evaluation.{evaluationFault, EvaluationAllows}
@@ -23,7 +23,7 @@ use Rattle.buffers.specs.Padded.{padded}
 use Rattle.sheetwords.specs.Filling.{ReadInto}
 use Rattle.literals.proofs.Growth.{in-front}
 use Rattle.sheetwords.proofs.Turns.{accepted-once}
-use Rattle.sheetwords.proofs.Laws.{sheet-within, sheet-table-accepted, sheet-table-rules}
+use Rattle.sheetwords.proofs.Laws.{sheet-within, sheet-table-accepted, sheet-table-records}
 use Rattle.valuesheet.specs.declared.Printed.{Printed}
 use Rattle.valuesheet.specs.declared.Printed.the-variants.{Whole, Refused as DoesNotFit}
 use Rattle.valuesheet.specs.ValueSheet.{linesFrom, valueSheet}
@@ -50,13 +50,13 @@ module _ (s : List ℕ) (wordRoom nameRoom n w : ℕ) (ws ns : List ℕ) (held :
   names-inside = omega (arith, held .atoms, in-buffer nameRoom (held .sofar .names) ns (held .names-are))
 
   pub words-inside : w ≤ length ws
-  words-inside = omega (arith, held .filled, in-buffer wordRoom (wordsOf (held .sofar .rules)) ws (held .words-are))
+  words-inside = omega (arith, held .filled, in-buffer wordRoom (wordsOf (held .sofar .records)) ws (held .words-are))
 
   names-taken : take n ns ≡ held .sofar .names
   names-taken = in-front n nameRoom (held .sofar .names) ns (held .atoms) (held .names-are)
 
-  words-taken : take w ws ≡ wordsOf (held .sofar .rules)
-  words-taken = in-front w wordRoom (wordsOf (held .sofar .rules)) ws (held .filled) (held .words-are)
+  words-taken : take w ws ≡ wordsOf (held .sofar .records)
+  words-taken = in-front w wordRoom (wordsOf (held .sofar .records)) ws (held .filled) (held .words-are)
 
   -- the bytes printed are the value sheet
   sheet-printed : (values : List ℕ) (v : Valued s wordRoom nameRoom n values)
@@ -99,7 +99,7 @@ module _ (s : List ℕ) (wordRoom nameRoom n w : ℕ) (ws ns : List ℕ) (held :
   takes-table : (room : ℕ) → 512 ≤ room → evaluationFault n (take w ws) room ≡ Accepted
   takes-table room h =
       ap₂ (λ (a : ℕ) (t : List ℕ). evaluationFault a t room) (held .atoms) words-taken
-      ∙ no-fault (length (held .sofar .names)) (wordsOf (held .sofar .rules)) room
+      ∙ no-fault (length (held .sofar .names)) (wordsOf (held .sofar .records)) room
       (omega (arith, held .atoms, few-atoms)) (sheet-table-accepted s wordRoom nameRoom (held .sofar) (held .is))
 
   pub never-refuses : (room room′ : List ℕ) (ans : Checked) (r : Refusal) → 512 ≤ length room → EvaluationAllows n (take w ws) room ans room′
@@ -113,9 +113,9 @@ module _ (s : List ℕ) (wordRoom nameRoom n w : ℕ) (ws ns : List ℕ) (held :
       let got = evaluated-is n (take w ws) room room′ ans allowed e .1 in
       record {
         model = got .0;
-        smallest = λ x f. subst (λ (R : List Rule). Smallest R (got .0))
-            (ap rulesOf words-taken ∙ sheet-table-rules (held .sofar)
-            ∙ ap (λ (y : Sofar). y .rules) (accepted-once (held .sofar) x (sym (held .is) ∙ f)))
+        smallest = λ x f. subst (λ (Q : List TableRecord). Smallest (rulesIn Q) (got .0))
+            (ap recordsOf words-taken ∙ sheet-table-records (held .sofar)
+            ∙ ap (λ (y : Sofar). y .records) (accepted-once (held .sofar) x (sym (held .is) ∙ f)))
             (got .1);
         codes = λ a h. ap (λ (t : List ℕ). getD t a 0) (got .2) ∙ written-at (λ b. value (got .0) (positive b)) n room a h;
       }
@@ -128,7 +128,7 @@ held-by : (s : List ℕ) (wordRoom nameRoom n w : ℕ) (ws ns : List ℕ) (o : O
     → ReadInto o wordRoom nameRoom (Read n w) ws ns → Holding s wordRoom nameRoom n w ws ns
 held-by s wordRoom nameRoom n w ws ns (accepted x) e into =
     let atoms : n ≡ length (x .names) = cc (into .answer) in
-    let filled : w ≡ length (wordsOf (x .rules)) = cc (into .answer) in
+    let filled : w ≡ length (wordsOf (x .records)) = cc (into .answer) in
     record {
       sofar = x;
       is = e;

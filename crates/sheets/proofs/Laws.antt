@@ -6,20 +6,20 @@ use native.Mathlib.Nat.{le-refl}
 use native.Mathlib.Omega.{arith}
 use lib.ListN.{length, take, drop, length-append}
 use Rattle.refusal.specs.Numbers.{text-room-too-small}
-use Rattle.paper.specs.Rules.{Rule, OneRulePerHead}
+use Rattle.paper.specs.Rules.{OneRulePerHead}
 use Rattle.paper.specs.Definitions.{Interpretation, Smallest}
 use Rattle.paper.specs.Marking.{Marks, Marking, Settled}
 use Rattle.paper.proofs.Smallest.{smallest-unique}
 use Rattle.words.specs.Check.{AcceptedTable}
-use Rattle.words.specs.Layout.{wordsOf, rulesOf}
+use Rattle.words.specs.Layout.{TableRecord, wordsOf, recordsOf, rulesIn}
 use Rattle.words.proofs.Laws.{accepted-one-rule}
 use Rattle.evaluation.proofs.Laws.{always-settles}
 use Rattle.literals.specs.Literals.{Sofar}
-use Rattle.literals.proofs.Growth.{in-front}
+use Rattle.literals.proofs.Growth.{LineByLine, in-front}
 use Rattle.sheetwords.specs.Sheets.{accepted, refused, sheetOutcome}
 use Rattle.buffers.specs.Padded.{padded}
 use Rattle.sheetwords.proofs.Turns.{accepted-is-not-refused, accepted-once}
-use Rattle.sheetwords.proofs.Laws.{sheet-table-accepted, sheet-table-rules}
+use Rattle.sheetwords.proofs.Laws.{sheet-table-accepted, sheet-lines, sheet-table-records}
 use Rattle.sheets.specs.declared.SheetAnswer.{SheetAnswer}
 use Rattle.sheets.specs.declared.SheetCounts.{SheetCounts}
 use Rattle.sheets.specs.SheetEntry.{sheetOf, counts, SheetAllows}
@@ -27,25 +27,27 @@ use Rattle.sheets.proofs.Values.{no-fault}
 
 -- with N marks made an evaluation of a sheet is settled: 19 can't happen
 pub sheet-settles : (s : List ℕ) (wordRoom nameRoom : ℕ) (x : Sofar) → sheetOutcome s wordRoom nameRoom ≡ accepted x
-    → (A : Marks) → Marking (x .rules) (length (x .names)) A → Settled (x .rules) A
+    → (A : Marks) → Marking (rulesIn (x .records)) (length (x .names)) A → Settled (rulesIn (x .records)) A
 sheet-settles s wordRoom nameRoom x e A m =
     let table = sheet-table-accepted s wordRoom nameRoom x e in
     let N = length (x .names) in
-    subst (λ (R : List Rule). Settled R A) (sheet-table-rules x)
-    (always-settles N (wordsOf (x .rules)) N (no-fault N (wordsOf (x .rules)) N (le-refl N) table) A
-    (subst (λ (R : List Rule). Marking R N A) (sym (sheet-table-rules x)) m))
+    subst (λ (Q : List TableRecord). Settled (rulesIn Q) A) (sheet-table-records x)
+    (always-settles N (wordsOf (x .records)) N (no-fault N (wordsOf (x .records)) N (le-refl N) table) A
+    (subst (λ (Q : List TableRecord). Marking (rulesIn Q) N A) (sym (sheet-table-records x)) m))
 
 -- an accepted sheet has at most one rule per head
-pub sheet-one-rule : (s : List ℕ) (wordRoom nameRoom : ℕ) (x : Sofar) → sheetOutcome s wordRoom nameRoom ≡ accepted x → OneRulePerHead (x .rules)
+pub sheet-one-rule : (s : List ℕ) (wordRoom nameRoom : ℕ) (x : Sofar) → sheetOutcome s wordRoom nameRoom ≡ accepted x
+    → OneRulePerHead (rulesIn (x .records))
 sheet-one-rule s wordRoom nameRoom x e =
-    subst OneRulePerHead (sheet-table-rules x) (accepted-one-rule (length (x .names)) (wordsOf (x .rules)) (sheet-table-accepted s wordRoom nameRoom x e))
+    subst (λ (Q : List TableRecord). OneRulePerHead (rulesIn Q)) (sheet-table-records x)
+    (accepted-one-rule (length (x .names)) (wordsOf (x .records)) (sheet-table-accepted s wordRoom nameRoom x e))
 
 -- the words, names and value sheet of an accepted sheet
 same-sheet : (s : List ℕ) (wordRoom nameRoom : ℕ) (x y : Sofar) (I J : Interpretation) → sheetOutcome s wordRoom nameRoom ≡ accepted x
-    → sheetOutcome s wordRoom nameRoom ≡ accepted y → Smallest (x .rules) I → Smallest (y .rules) J → (x ≡ y) × (I ≡ J)
+    → sheetOutcome s wordRoom nameRoom ≡ accepted y → Smallest (rulesIn (x .records)) I → Smallest (rulesIn (y .records)) J → (x ≡ y) × (I ≡ J)
 same-sheet s wordRoom nameRoom x y I J e f a b =
     let same = accepted-once x y (sym e ∙ f) in
-    (same, smallest-unique (x .rules) I J a (subst (λ (z : Sofar). Smallest (z .rules) J) (sym same) b))
+    (same, smallest-unique (rulesIn (x .records)) I J a (subst (λ (z : Sofar). Smallest (rulesIn (z .records)) J) (sym same) b))
 
 abbrev Equal : SheetAnswer → SheetAnswer → List ℕ → List ℕ → List ℕ → List ℕ → List ℕ → List ℕ → Type 0
 Equal a b ws ws′ ns ns′ text text′ = (a ≡ b) × (ws ≡ ws′) × (ns ≡ ns′) × (text ≡ text′)
@@ -77,7 +79,7 @@ module _ (s : List ℕ) (wordRoom nameRoom : ℕ) (text : List ℕ) where
   sheet-determined (SheetAllows.accepted {x} {I} e i h) (SheetAllows.accepted {x = y} {I = J} e′ j h′) =
       let same = same-sheet s wordRoom nameRoom x y I J e e′ i j in (
         ap₂ (λ (z : Sofar) (K : Interpretation). counts s z K) (same .0) (same .1),
-        ap (λ (z : Sofar). padded wordRoom (wordsOf (z .rules))) (same .0),
+        ap (λ (z : Sofar). padded wordRoom (wordsOf (z .records))) (same .0),
         ap (λ (z : Sofar). padded nameRoom (z .names)) (same .0),
         ap₂ (λ (z : Sofar) (K : Interpretation). sheetOf s z K ++ drop (length (sheetOf s z K)) text) (same .0) (same .1),
       )
@@ -87,11 +89,11 @@ pub record Leaves (s : List ℕ) (wordRoom nameRoom : ℕ) (c : SheetCounts) (ws
   pub sofar : Sofar
   pub model : Interpretation
   pub read : sheetOutcome s wordRoom nameRoom ≡ accepted sofar
-  pub smallest : Smallest (sofar .rules) model
+  pub smallest : Smallest (rulesIn (sofar .records)) model
   pub atoms : length (sofar .names) ≡ c .atoms
-  pub words : length (wordsOf (sofar .rules)) ≡ c .words
+  pub words : length (wordsOf (sofar .records)) ≡ c .words
   pub bytes : length (sheetOf s sofar model) ≡ c .bytes
-  pub words-are : ws ≡ padded wordRoom (wordsOf (sofar .rules))
+  pub words-are : ws ≡ padded wordRoom (wordsOf (sofar .records))
   pub names-are : ns ≡ padded nameRoom (sofar .names)
   pub rest : List ℕ
   pub text-is : text ≡ sheetOf s sofar model ++ rest
@@ -104,7 +106,7 @@ accepted-leaves s wordRoom nameRoom text (SheetAllows.never-settles e A m n) c s
 accepted-leaves s wordRoom nameRoom text (SheetAllows.does-not-fit e i h) c same = absurd (let z : _≡_ {A = ℕ} 0 1 = cc in omega arith)
 accepted-leaves s wordRoom nameRoom text (SheetAllows.accepted {x} {I} e i h) c same =
     let atoms : length (x .names) ≡ c .atoms = cc in
-    let words : length (wordsOf (x .rules)) ≡ c .words = cc in
+    let words : length (wordsOf (x .records)) ≡ c .words = cc in
     let bytes : length (sheetOf s x I) ≡ c .bytes = cc in
     record {
       sofar = x;
@@ -125,15 +127,20 @@ module _ (s : List ℕ) (wordRoom nameRoom : ℕ) (c : SheetCounts) (ws ns text 
   pub accepted-fits : c .bytes ≤ length text
   accepted-fits = omega (arith, left .bytes, ap length (left .text-is), length-append (sheetOf s (left .sofar) (left .model)) (left .rest))
 
-  words-left : take (c .words) ws ≡ wordsOf (left .sofar .rules)
-  words-left = in-front (c .words) wordRoom (wordsOf (left .sofar .rules)) ws (sym (left .words)) (left .words-are)
+  words-left : take (c .words) ws ≡ wordsOf (left .sofar .records)
+  words-left = in-front (c .words) wordRoom (wordsOf (left .sofar .records)) ws (sym (left .words)) (left .words-are)
 
-  -- the words are an accepted table for the N answered, with the sheet's rules
+  -- its records stand in lines 1, 2, 3, ..
+  pub lines-left : LineByLine (recordsOf (take (c .words) ws))
+  lines-left =
+      subst LineByLine (sym (ap recordsOf words-left ∙ sheet-table-records (left .sofar))) (sheet-lines s wordRoom nameRoom (left .sofar) (left .read))
+
+  -- the words are an accepted table for the N answered, with the sheet's records
   pub leaves-a-table : (x : Sofar) → sheetOutcome s wordRoom nameRoom ≡ accepted x
-      → AcceptedTable (c .atoms) (take (c .words) ws) × (rulesOf (take (c .words) ws) ≡ x .rules)
+      → AcceptedTable (c .atoms) (take (c .words) ws) × (recordsOf (take (c .words) ws) ≡ x .records)
   leaves-a-table x read = (
     subst₂ (λ (n : ℕ) (t : List ℕ). AcceptedTable n t) (left .atoms) (sym words-left)
         (sheet-table-accepted s wordRoom nameRoom (left .sofar) (left .read)),
-    ap rulesOf words-left ∙ sheet-table-rules (left .sofar)
-        ∙ ap (λ (y : Sofar). y .rules) (accepted-once (left .sofar) x (sym (left .read) ∙ read)),
+    ap recordsOf words-left ∙ sheet-table-records (left .sofar)
+        ∙ ap (λ (y : Sofar). y .records) (accepted-once (left .sofar) x (sym (left .read) ∙ read)),
   )

@@ -9,17 +9,20 @@ use lib.ListN.{length, getD, take, replicate, length-append, List·getD-append}
 use lib.Seq.{take-append-seam}
 use borrow.Author.Tests.{eqb-true}
 use Rattle.paper.specs.Table1.{code}
-use Rattle.paper.specs.Rules.{Rule, positive}
+use Rattle.paper.specs.Rules.{positive}
 use Rattle.paper.specs.Definitions.{Interpretation, value, Smallest}
 use Rattle.paper.proofs.Smallest.{smallest-unique}
-use Rattle.words.specs.Layout.{rulesOf}
-use Rattle.reader.specs.Sheet.{isLineEnd, startsName, isDigit, continuesName}
+use Rattle.sets.specs.Sets.{_∈_}
+use Rattle.words.specs.Layout.{TableRecord, recordsOf, rulesIn, rulesOf}
+use Rattle.reader.specs.declared.Role.the-variants.{Head}
+use Rattle.reader.specs.Sheet.{lineOf, isLineEnd, startsName, isDigit, continuesName}
 use Rattle.reader.specs.Readings.{readingAt, reached}
 use Rattle.reader.specs.declared.Reading.the-variants.{Literal}
 use Rattle.reader.specs.declared.SheetLiteral.{SheetLiteral}
 use Rattle.names.specs.Names.{bytesAt, nameOf}
-use Rattle.literals.specs.Literals.{Sofar}
+use Rattle.literals.specs.Literals.{Sofar, codeFor}
 use Rattle.sheetwords.specs.Sheets.{accepted, sheetOutcome}
+use Rattle.sheetwords.proofs.Heads.{head-has-record}
 use Rattle.sheetwords.proofs.Names.{names-apart, literal-has-name, name-is-written, name-bytes}
 use Rattle.buffers.specs.Padded.{padded}
 use Rattle.valuesheet.specs.ValueSheet.{letterOf, lineFor}
@@ -91,8 +94,9 @@ module _ (s : List ℕ) (wordRoom nameRoom : ℕ) (c : SheetCounts) (ws ns text 
   pub model-left : (I : Interpretation) → Smallest (rulesOf (take (c .words) ws)) I
       → (c .bytes ≡ length (sheetOf s (left .sofar) I)) × (text ≡ sheetOf s (left .sofar) I ++ left .rest)
   model-left I smallest =
-      let rules = leaves-a-table s wordRoom nameRoom c ws ns text left (left .sofar) (left .read) .1 in
-      let same = smallest-unique (left .sofar .rules) (left .model) I (left .smallest) (subst (λ (R : List Rule). Smallest R I) rules smallest) in (
+      let records = leaves-a-table s wordRoom nameRoom c ws ns text left (left .sofar) (left .read) .1 in
+      let same = smallest-unique (rulesIn (left .sofar .records)) (left .model) I (left .smallest)
+      (subst (λ (Q : List TableRecord). Smallest (rulesIn Q) I) records smallest) in (
         sym (left .bytes) ∙ ap (λ (J : Interpretation). length (sheetOf s (left .sofar) J)) same,
         left .text-is ∙ ap (λ (J : Interpretation). sheetOf s (left .sofar) J ++ left .rest) same,
       )
@@ -140,3 +144,19 @@ module _ (s : List ℕ) (wordRoom nameRoom : ℕ) (c : SheetCounts) (ws ns text 
   name-left-is-written a h =
       let got = name-is-written s wordRoom nameRoom (left .sofar) (left .read) a (omega (arith, left .atoms)) in
       (got .0, got .1, got .2, ap (nameOf s) (entry-left a h) ∙ got .3)
+
+  pub head-has-record-left : (i : ℕ) (l : SheetLiteral) → readingAt s (reached s 0 i) ≡ Literal l → l .role ≡ Head
+      → (r : TableRecord) × (r ∈ recordsOf (take (c .words) ws)) × (r .line ≡ lineOf s (l .start))
+      × (a : ℕ) × (r .rule .head ≡ codeFor (l .negated) a) × (a < c .atoms) × (nameOf s (getD ns a 0) ≡ bytesAt s (l .start) (l .len))
+  head-has-record-left i l e head =
+      let got = head-has-record s wordRoom nameRoom (left .sofar) (left .read) i l e head in
+      let records = leaves-a-table s wordRoom nameRoom c ws ns text left (left .sofar) (left .read) .1 in
+      let h : got .3 < c .atoms = omega (arith, got .5 .0, left .atoms) in (
+        got .0,
+        subst (λ (Q : List TableRecord). got .0 ∈ Q) (sym records) (got .1),
+        got .2,
+        got .3,
+        got .4,
+        h,
+        ap (nameOf s) (entry-left (got .3) h) ∙ got .5 .1,
+      )

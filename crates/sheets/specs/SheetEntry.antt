@@ -9,7 +9,7 @@ use Rattle.paper.specs.Table1.{code}
 use Rattle.paper.specs.Rules.{positive}
 use Rattle.paper.specs.Definitions.{Interpretation, value, Smallest}
 use Rattle.paper.specs.Marking.{Marks, Marking, Settled}
-use Rattle.words.specs.Layout.{wordsOf}
+use Rattle.words.specs.Layout.{wordsOf, rulesIn}
 use Rattle.literals.specs.Literals.{Sofar}
 use Rattle.sheetwords.specs.Sheets.{sheetOutcome}
 use Rattle.sheetwords.specs.Sheets as sheet
@@ -23,19 +23,19 @@ sheetOf s x I = valueSheet s (λ a. code (value I (positive a))) (x .names)
 
 -- N, the words filled and the value sheet's length
 abbrev pub counts : List ℕ → Sofar → Interpretation → SheetAnswer
-counts s x I = SheetAnswer.Accepted (record { atoms = length (x .names); words = length (wordsOf (x .rules)); bytes = length (sheetOf s x I) })
+counts s x I = SheetAnswer.Accepted (record { atoms = length (x .names); words = length (wordsOf (x .records)); bytes = length (sheetOf s x I) })
 
 -- a sheet, the lengths of its word and name buffers, and its text room: the answer, and the three afterwards
 pub data SheetAllows (s : List ℕ) (wordRoom nameRoom : ℕ) (text : List ℕ) : SheetAnswer → List ℕ → List ℕ → List ℕ → Type 0 where
   refused : {f : Refusal} → sheetOutcome s wordRoom nameRoom ≡ sheet.refused f
       → SheetAllows s wordRoom nameRoom text (SheetAnswer.Refused f) (padded wordRoom []) (padded nameRoom []) text
   never-settles : {x : Sofar} → sheetOutcome s wordRoom nameRoom ≡ sheet.accepted x
-      → (A : Marks) → Marking (x .rules) (length (x .names)) A → (Settled (x .rules) A → ⊥)
+      → (A : Marks) → Marking (rulesIn (x .records)) (length (x .names)) A → (Settled (rulesIn (x .records)) A → ⊥)
       → SheetAllows s wordRoom nameRoom text (SheetAnswer.Refused never-settled) (padded wordRoom []) (padded nameRoom []) text
-  does-not-fit : {x : Sofar} {I : Interpretation} → sheetOutcome s wordRoom nameRoom ≡ sheet.accepted x → Smallest (x .rules) I
+  does-not-fit : {x : Sofar} {I : Interpretation} → sheetOutcome s wordRoom nameRoom ≡ sheet.accepted x → Smallest (rulesIn (x .records)) I
       → length text < length (sheetOf s x I)
       → SheetAllows s wordRoom nameRoom text (SheetAnswer.Refused (text-room-too-small (length (sheetOf s x I)))) (padded wordRoom []) (padded nameRoom []) text
-  accepted : {x : Sofar} {I : Interpretation} → sheetOutcome s wordRoom nameRoom ≡ sheet.accepted x → Smallest (x .rules) I
+  accepted : {x : Sofar} {I : Interpretation} → sheetOutcome s wordRoom nameRoom ≡ sheet.accepted x → Smallest (rulesIn (x .records)) I
       → length (sheetOf s x I) ≤ length text
-      → SheetAllows s wordRoom nameRoom text (counts s x I) (padded wordRoom (wordsOf (x .rules))) (padded nameRoom (x .names))
+      → SheetAllows s wordRoom nameRoom text (counts s x I) (padded wordRoom (wordsOf (x .records))) (padded nameRoom (x .names))
       (sheetOf s x I ++ drop (length (sheetOf s x I)) text)

@@ -1,57 +1,82 @@
 -- The names of an accepted sheet: each is written in it, no two are equal, and every literal has one of them.
 use mathlib.Core.Path.{_≡_, refl, sym, ap, ap₂, _∙_, subst}
-use mathlib.Core.Logic.{_⊎_, inl, inr}
+use mathlib.Core.Logic.{inl, inr}
 use mathlib.Core.List.{List, [], _∷_, _++_, List·Memᴰ·head, List·Memᴰ·tail, List·Memᴰ·not-nil}
-use mathlib.Core.Bool.{Bool, true, false, cond, _&&_}
-use Prim.Native.Nat.{ℕ, zero, suc, _+_, _-_, _≤_, _<_}
-use native.Mathlib.Numerals.{add-one}
+use mathlib.Core.Bool.{Bool, true, false, cond}
+use Prim.Native.Nat.{ℕ, zero, suc, _+_, _<_}
 use native.Mathlib.Omega.{arith}
-use lib.Dec.{ltb, leb}
+use lib.Dec.{ltb}
 use lib.ListN.{length, getD, length-append, List·getD-append}
 use lib.Seq.{getD-at}
 use borrow.Author.Tests.{ltb-true, ltb-false}
 use Rattle.sets.specs.Sets.{_∈_}
+use Rattle.refusal.specs.declared.Checked.the-variants.{Accepted}
 use Rattle.reader.specs.declared.SheetLiteral.{SheetLiteral}
-use Rattle.reader.specs.declared.Reading.{Reading}
-use Rattle.reader.specs.declared.Reading.the-variants.{End, Refused as ReadRefused, Literal}
+use Rattle.reader.specs.declared.Reading.the-variants.{End, Literal}
 use Rattle.reader.specs.Sheet.{byteAt, continuesName}
-use Rattle.reader.specs.Readings.{readingAt, placeAfter, nextAt, NoLiteral, reached}
-use Rattle.reader.proofs.Laws.{literal-read, place-grows, place-inside, ends-at-the-end, reached-on, reached-stays}
+use Rattle.reader.specs.Readings.{readingAt, reached}
+use Rattle.reader.proofs.Laws.{literal-read, ends-at-the-end}
 use Rattle.names.specs.Names.{bytesAt, entryFor, nameOf, numberIn}
 use Rattle.names.proofs.Laws.{number-names, number-new, entry-start, entry-length}
-use Rattle.literals.specs.Literals.{Sofar, nothing, atomOf, withName, after, literalFault}
-use Rattle.sheetwords.specs.Sheets.{accepted, byReading, sheetFrom, sheetOutcome}
-use Rattle.sheetwords.proofs.Turns.{accepted-is-not-refused, accepted-once}
-use Rattle.sheetwords.proofs.Laws.{unless-accepted, demanding-accepted}
+use Rattle.names.proofs.Steps.{number-at-most}
+use Rattle.literals.specs.Literals.{Sofar, atomOf, withName, after, literalFault}
+use Rattle.literals.proofs.Lasts.{Below, below-snoc}
+use Rattle.sheetwords.specs.Sheets.{accepted, sheetOutcome}
+use Rattle.sheetwords.proofs.Through.{literal-before, Ended, at-the-end}
 
 -- a name that a literal of the sheet has
 abbrev Written : List ℕ → List ℕ → Type 0
 Written s name = (i : ℕ) × (l : SheetLiteral) × (readingAt s (reached s 0 i) ≡ Literal l) × (name ≡ bytesAt s (l .start) (l .len))
 
--- a name that an entry has
-abbrev Entered : List ℕ → List ℕ → List ℕ → Type 0
-Entered s es name = (a : ℕ) × (a < length es) × (nameOf s (getD es a 0) ≡ name)
+-- entry a has the name
+abbrev pub NamedBy : List ℕ → List ℕ → ℕ → List ℕ → Type 0
+NamedBy s es a name = (a < length es) × (nameOf s (getD es a 0) ≡ name)
 
--- the entries of the first `count` literals
-record Listed (s : List ℕ) (count : ℕ) (es : List ℕ) : Type 0 where
-  apart : (a b : ℕ) → a < length es → b < length es → nameOf s (getD es a 0) ≡ nameOf s (getD es b 0) → a ≡ b
-  written : (a : ℕ) → a < length es → Written s (nameOf s (getD es a 0))
-  entered : (i : ℕ) → i < count → (l : SheetLiteral) → readingAt s (reached s 0 i) ≡ Literal l → Entered s es (bytesAt s (l .start) (l .len))
+entry-name : (s : List ℕ) (l : SheetLiteral) → l .len < 32 → nameOf s (entryFor (l .start) (l .len)) ≡ bytesAt s (l .start) (l .len)
+entry-name s l short = ap₂ (bytesAt s) (entry-start (l .start) (l .len) short) (entry-length (l .start) (l .len) short)
 
--- below the end of a list with one more at its end: an element of the list, or that one
-abbrev Below : List ℕ → ℕ → ℕ → Type 0
-Below es e a =
-    ((a < length es) × (getD (es ++ (e ∷ [])) a 0 ≡ getD es a 0)) ⊎ ((a ≡ length es) × (getD (es ++ (e ∷ [])) a 0 ≡ e))
-
-below-snoc : (es : List ℕ) (e a : ℕ) → a < length (es ++ (e ∷ [])) → Below es e a
-below-snoc es e a h = by (ltb a (length es)) refl
+-- the names before stay, and a literal's is one of them
+pub name-stays : (s es : List ℕ) (a b : ℕ) (l : SheetLiteral) (name : List ℕ) → NamedBy s es b name → NamedBy s (withName a l es) b name
+unfolding withName
+name-stays s es a b l name named = by (ltb a (length es))
   where
-    by : (b : Bool) → ltb a (length es) ≡ b → Below es e a
-    by true q = inl (ltb-true a (length es) q, List·getD-append es (e ∷ []) 0 a (ltb-true a (length es) q))
-    by false q =
-        let last : a ≡ length es = omega (arith, ltb-false a (length es) q, length-append es (e ∷ [])) in inr (last, getD-at es e [] 0 a (sym last))
+    e : ℕ
+    e = entryFor (l .start) (l .len)
 
-same-literal : (k l : SheetLiteral) → Literal k ≡ Literal l → k ≡ l
+    by : (c : Bool) → NamedBy s (cond c es (es ++ (e ∷ []))) b name
+    by true = named
+    by false =
+        (omega (arith, named .0, length-append es (e ∷ [])), ap (nameOf s) (List·getD-append es (e ∷ []) 0 b (named .0)) ∙ named .1)
+
+pub name-new : (s es : List ℕ) (l : SheetLiteral) → l .len < 32
+    → NamedBy s (withName (atomOf s es l) l es) (atomOf s es l) (bytesAt s (l .start) (l .len))
+unfolding withName
+name-new s es l short = by (ltb (atomOf s es l) (length es)) refl
+  where
+    e : ℕ
+    e = entryFor (l .start) (l .len)
+
+    by : (c : Bool) → ltb (atomOf s es l) (length es) ≡ c → NamedBy s (cond c es (es ++ (e ∷ []))) (atomOf s es l) (bytesAt s (l .start) (l .len))
+    by true q = let h = ltb-true (atomOf s es l) (length es) q in (h, number-names s es (bytesAt s (l .start) (l .len)) h)
+    by false q =
+        let last : atomOf s es l ≡ length es =
+        omega (arith, ltb-false (atomOf s es l) (length es) q, number-at-most s es (bytesAt s (l .start) (l .len))) in
+        (omega (arith, last, length-append es (e ∷ [])), ap (nameOf s) (getD-at es e [] 0 (atomOf s es l) (sym last)) ∙ entry-name s l short)
+
+-- the entries of the first `count` literals: no two have one name, each name is written, and each literal has one
+abbrev Apart : List ℕ → List ℕ → Type 0
+Apart s es = (a b : ℕ) → a < length es → b < length es → nameOf s (getD es a 0) ≡ nameOf s (getD es b 0) → a ≡ b
+
+abbrev EachWritten : List ℕ → List ℕ → Type 0
+EachWritten s es = (a : ℕ) → a < length es → Written s (nameOf s (getD es a 0))
+
+record Listed (s : List ℕ) (count : ℕ) (es : List ℕ) : Type 0 where
+  apart : Apart s es
+  written : EachWritten s es
+  entered : (i : ℕ) → i < count → (l : SheetLiteral) → readingAt s (reached s 0 i) ≡ Literal l
+      → (a : ℕ) × NamedBy s es a (bytesAt s (l .start) (l .len))
+
+pub same-literal : (k l : SheetLiteral) → Literal k ≡ Literal l → k ≡ l
 same-literal k l e = cc e
 
 module _ (s : List ℕ) (count : ℕ) (es : List ℕ) (listed : Listed s count es) (l : SheetLiteral) (is : readingAt s (reached s 0 count) ≡ Literal l) where
@@ -61,30 +86,8 @@ module _ (s : List ℕ) (count : ℕ) (es : List ℕ) (listed : Listed s count e
   abbrev entry : ℕ
   entry = entryFor (l .start) (l .len)
 
-  entry-name : nameOf s entry ≡ name
-  entry-name =
-      let short : l .len < 32 = omega (arith, literal-read s (reached s 0 count) l is .named .at-most-24) in
-      ap₂ (bytesAt s) (entry-start (l .start) (l .len) short) (entry-length (l .start) (l .len) short)
-
-  -- the names that the literals before had are still there, and so is this one's
-  entered-more : (fs : List ℕ) → ((n : List ℕ) → Entered s es n → Entered s fs n) → Entered s fs name
-      → (i : ℕ) → i < suc count → (k : SheetLiteral) → readingAt s (reached s 0 i) ≡ Literal k → Entered s fs (bytesAt s (k .start) (k .len))
-  entered-more fs kept here i h k e = by (ltb i count) refl
-    where
-      by : (b : Bool) → ltb i count ≡ b → Entered s fs (bytesAt s (k .start) (k .len))
-      by true q = kept _ (listed .entered i (ltb-true i count q) k e)
-      by false q =
-          let last : i ≡ count = omega (arith, ltb-false i count q) in
-          let same = same-literal l k (sym is ∙ ap (λ (x : ℕ). readingAt s (reached s 0 x)) (sym last) ∙ e) in
-          subst (λ (m : SheetLiteral). Entered s fs (bytesAt s (m .start) (m .len))) same here
-
-  -- a name that an entry has already
-  listed-old : numberIn s es name < length es → Listed s (suc count) es
-  listed-old h = record {
-    apart = listed .apart;
-    written = listed .written;
-    entered = entered-more es (λ n m. m) (numberIn s es name, h, number-names s es name h);
-  }
+  short : l .len < 32
+  short = omega (arith, literal-read s (reached s 0 count) l is .named .at-most-24)
 
   -- a new name, and its entry
   module _ (new : numberIn s es name < length es → ⊥) where
@@ -94,70 +97,45 @@ module _ (s : List ℕ) (count : ℕ) (es : List ℕ) (listed : Listed s count e
     differs : (a : ℕ) → a < length es → nameOf s (getD es a 0) ≡ name → ⊥
     differs a h e = new (number-new s es name a h e)
 
-    apart-more : (a b : ℕ) → Below es entry a → Below es entry b → nameOf s (getD more a 0) ≡ nameOf s (getD more b 0) → a ≡ b
+    apart-more : (a b : ℕ) → Below 0 es entry a → Below 0 es entry b → nameOf s (getD more a 0) ≡ nameOf s (getD more b 0) → a ≡ b
     apart-more a b (inl x) (inl y) e = listed .apart a b (x .0) (y .0) (sym (ap (nameOf s) (x .1)) ∙ e ∙ ap (nameOf s) (y .1))
-    apart-more a b (inl x) (inr y) e = absurd (differs a (x .0) (sym (ap (nameOf s) (x .1)) ∙ e ∙ ap (nameOf s) (y .1) ∙ entry-name))
-    apart-more a b (inr x) (inl y) e = absurd (differs b (y .0) (sym (ap (nameOf s) (y .1)) ∙ sym e ∙ ap (nameOf s) (x .1) ∙ entry-name))
+    apart-more a b (inl x) (inr y) e = absurd (differs a (x .0) (sym (ap (nameOf s) (x .1)) ∙ e ∙ ap (nameOf s) (y .1) ∙ entry-name s l short))
+    apart-more a b (inr x) (inl y) e = absurd (differs b (y .0) (sym (ap (nameOf s) (y .1)) ∙ sym e ∙ ap (nameOf s) (x .1) ∙ entry-name s l short))
     apart-more a b (inr x) (inr y) e = x .0 ∙ sym (y .0)
 
-    written-more : (a : ℕ) → Below es entry a → Written s (nameOf s (getD more a 0))
+    written-more : (a : ℕ) → Below 0 es entry a → Written s (nameOf s (getD more a 0))
     written-more a (inl x) = subst (λ (f : ℕ). Written s (nameOf s f)) (sym (x .1)) (listed .written a (x .0))
-    written-more a (inr x) = (count, l, is, ap (nameOf s) (x .1) ∙ entry-name)
+    written-more a (inr x) = (count, l, is, ap (nameOf s) (x .1) ∙ entry-name s l short)
 
-    kept-more : (n : List ℕ) → Entered s es n → Entered s more n
-    kept-more n m =
-        (m .0, omega (arith, m .1, length-append es (entry ∷ [])), ap (nameOf s) (List·getD-append es (entry ∷ []) 0 (m .0) (m .1)) ∙ m .2)
-
-    here-more : Entered s more name
-    here-more = (length es, omega (arith, length-append es (entry ∷ [])), ap (nameOf s) (getD-at es entry [] 0 (length es) refl) ∙ entry-name)
-
-    listed-new : Listed s (suc count) more
-    listed-new = record {
-      apart = λ a b h h′. apart-more a b (below-snoc es entry a h) (below-snoc es entry b h′);
-      written = λ a h. written-more a (below-snoc es entry a h);
-      entered = entered-more more kept-more here-more;
-    }
+  still-listed : (b : Bool) → ltb (numberIn s es name) (length es) ≡ b
+      → Apart s (cond b es (es ++ (entry ∷ []))) × EachWritten s (cond b es (es ++ (entry ∷ [])))
+  still-listed true q = (listed .apart, listed .written)
+  still-listed false q =
+      let new : (numberIn s es name < length es → ⊥) = λ h. omega (arith, ltb-false (numberIn s es name) (length es) q) in (
+        λ a b h h′. apart-more new a b (below-snoc 0 es entry a h) (below-snoc 0 es entry b h′),
+        λ a h. written-more new a (below-snoc 0 es entry a h),
+      )
 
   listed-after : Listed s (suc count) (withName (atomOf s es l) l es)
   unfolding withName
-  listed-after = by (ltb (numberIn s es name) (length es)) refl
+  listed-after =
+      let still = still-listed (ltb (numberIn s es name) (length es)) refl in
+      record { apart = still .0; written = still .1; entered = λ i h k e. entered i h k e (ltb i count) refl }
     where
-      by : (b : Bool) → ltb (numberIn s es name) (length es) ≡ b → Listed s (suc count) (cond b es (es ++ (entry ∷ [])))
-      by true q = listed-old (ltb-true (numberIn s es name) (length es) q)
-      by false q = listed-new (λ h. omega (arith, ltb-false (numberIn s es name) (length es) q))
+      entered : (i : ℕ) → i < suc count → (k : SheetLiteral) → readingAt s (reached s 0 i) ≡ Literal k → (b : Bool) → ltb i count ≡ b
+          → (a : ℕ) × NamedBy s (withName (atomOf s es l) l es) a (bytesAt s (k .start) (k .len))
+      entered i h k e true q =
+          let old = listed .entered i (ltb-true i count q) k e in (old .0, name-stays s es (atomOf s es l) (old .0) l _ (old .1))
+      entered i h k e false q =
+          let last : i ≡ count = omega (arith, ltb-false i count q) in
+          let same = same-literal l k (sym is ∙ ap (λ (x : ℕ). readingAt s (reached s 0 x)) (sym last) ∙ e) in
+          subst (λ (m : SheetLiteral). (a : ℕ) × NamedBy s (withName (atomOf s es l) l es) a (bytesAt s (m .start) (m .len))) same
+          (atomOf s es l, name-new s es l short)
 
--- where the reader has ended, the names are those of all the literals
-abbrev Finished : List ℕ → List ℕ → Type 0
-Finished s es = (count : ℕ) × (readingAt s (reached s 0 count) ≡ End) × Listed s count es
-
-place-reached : (s : List ℕ) (p count : ℕ) (l : SheetLiteral) → p ≡ reached s 0 count → readingAt s p ≡ Literal l
-    → placeAfter (Literal l) p ≡ reached s 0 (suc count)
-unfolding nextAt
-place-reached s p count l here is =
-    sym (ap (reached s 0) (sym (add-one count)) ∙ reached-on s count 1 0
-    ∙ ap (λ (q : ℕ). placeAfter (readingAt s q) q) (sym here) ∙ ap (λ (r : Reading). placeAfter r p) is)
-
-finish-step : (s : List ℕ) (n p count : ℕ) (sofar x : Sofar)
-    → ((q : ℕ) (y : Sofar) → q ≡ reached s 0 (suc count) → q ≤ length s → length s < q + n → Listed s (suc count) (y .names)
-    → sheetFrom n s q y ≡ accepted x → Finished s (x .names))
-    → (r : Reading) → readingAt s p ≡ r → p ≡ reached s 0 count → length s < p + suc n → Listed s count (sofar .names)
-    → byReading s p sofar r (sheetFrom n s (placeAfter r p)) ≡ accepted x → Finished s (x .names)
+listed-on : (s : List ℕ) (count : ℕ) (sofar : Sofar) (l : SheetLiteral) → readingAt s (reached s 0 count) ≡ Literal l
+    → literalFault s (reached s 0 count) sofar l ≡ Accepted → Listed s count (sofar .names) → Listed s (suc count) (after s sofar l .names)
 unfolding after
-finish-step s n p count sofar x onward End is here enough listed e =
-    (count, ap (readingAt s) (sym here) ∙ is, subst (λ (y : Sofar). Listed s count (y .names)) (accepted-once sofar x e) listed)
-finish-step s n p count sofar x onward (ReadRefused r) is here enough listed e = absurd (accepted-is-not-refused x r (sym e))
-finish-step s n p count sofar x onward (Literal l) is here enough listed e =
-    let both = unless-accepted (literalFault s p sofar l) (sheetFrom n s (placeAfter (Literal l) p) (after s sofar l)) x e in
-    let next = listed-after s count (sofar .names) listed l (ap (readingAt s) (sym here) ∙ is) in
-    onward (placeAfter (Literal l) p) (after s sofar l) (place-reached s p count l here is) (place-inside s p l is)
-    (omega (arith, place-grows s p l is)) next (both .1)
-
-finish-from : (n : ℕ) (s : List ℕ) (p count : ℕ) (sofar x : Sofar) → p ≡ reached s 0 count → p ≤ length s → length s < p + n
-    → Listed s count (sofar .names) → sheetFrom n s p sofar ≡ accepted x → Finished s (x .names)
-unfolding sheetFrom
-finish-from zero s p count sofar x here inside enough listed e = absurd (omega arith)
-finish-from (suc n) s p count sofar x here inside enough listed e =
-    finish-step s n p count sofar x (λ q y h h′ h″ m. finish-from n s q (suc count) y x h h′ h″ m) (readingAt s p) refl here enough listed e
+listed-on s count sofar l is fault listed = listed-after s count (sofar .names) listed l is
 
 none-listed : (s : List ℕ) → Listed s 0 []
 none-listed s = record {
@@ -179,11 +157,8 @@ bytes-each s q (suc n) each b (List·Memᴰ·tail m) = bytes-each s (suc q) n (�
     later i h = let there : suc q + i ≡ q + suc i = omega arith in ap (λ (x : ℕ). continuesName (byteAt s x)) there ∙ each (suc i) (omega arith)
 
 module _ (s : List ℕ) (wordRoom nameRoom : ℕ) (x : Sofar) (read : sheetOutcome s wordRoom nameRoom ≡ accepted x) where
-  finished : Finished s (x .names)
-  unfolding sheetOutcome
-  finished =
-      finish-from (length s + 1) s 0 0 nothing x refl (omega arith) (omega arith) (none-listed s)
-      (demanding-accepted (leb 8192 wordRoom && leb 512 nameRoom) _ _ x (demanding-accepted (leb (length s) 65536) _ _ x read .1) .1)
+  finished : Ended s (λ count sofar. Listed s count (sofar .names)) (listed-on s) x
+  finished = at-the-end s (λ count sofar. Listed s count (sofar .names)) (listed-on s) x wordRoom nameRoom (none-listed s) read
 
   -- the reader has come to the sheet's end
   pub read-to-the-end : (i : ℕ) × (reached s 0 i ≡ length s) × (readingAt s (reached s 0 i) ≡ End)
@@ -197,16 +172,8 @@ module _ (s : List ℕ) (wordRoom nameRoom : ℕ) (x : Sofar) (read : sheetOutco
   -- every literal of the sheet has one of the names
   pub literal-has-name : (i : ℕ) (l : SheetLiteral) → readingAt s (reached s 0 i) ≡ Literal l
       → (a : ℕ) × (a < length (x .names)) × (nameOf s (getD (x .names) a 0) ≡ bytesAt s (l .start) (l .len))
-  literal-has-name i l e = by (ltb i (finished .0)) refl
-    where
-      by : (b : Bool) → ltb i (finished .0) ≡ b → Entered s (x .names) (bytesAt s (l .start) (l .len))
-      by true q = finished .2 .entered i (ltb-true i (finished .0) q) l e
-      by false q =
-          let count = finished .0 in
-          let past : i ≡ count + (i - count) = omega (arith, ltb-false i count q) in
-          let ended = subst NoLiteral (sym (finished .1)) tt in
-          let still = ap (reached s 0) past ∙ reached-on s count (i - count) 0 ∙ reached-stays s (i - count) (reached s 0 count) ended in
-          absurd (subst NoLiteral (ap (readingAt s) (sym still) ∙ e) ended)
+  literal-has-name i l e =
+      let got = finished .2 .entered i (literal-before s (finished .0) (finished .1) i l e) l e in (got .0, got .1 .0, got .1 .1)
 
   -- each name is that of a literal of the sheet
   pub name-is-written : (a : ℕ) → a < length (x .names)

@@ -64,7 +64,7 @@ module _ (s : List ℕ) (whole : Outcome) (p : ℕ) (k : Counts) (ws ns heads : 
       let same : (x : Sofar) → whole ≡ accepted x → inv .sofar ≡ x = λ x h. accepted-once (inv .sofar) x (sym done ∙ h) in
       record {
         answer = ap₂ Read (inv .kept .atoms) (inv .kept .words) ∙ ap filledBy (sym done);
-        words-are = λ x h. subst (λ (y : Sofar). ws ≡ padded (length ws) (wordsOf (y .rules))) (same x h) (inv .kept .in-words);
+        words-are = λ x h. subst (λ (y : Sofar). ws ≡ padded (length ws) (wordsOf (y .records))) (same x h) (inv .kept .in-words);
         names-are = λ x h. subst (λ (y : Sofar). ns ≡ padded (length ns) (y .names)) (same x h) (inv .kept .in-names);
       }
 
@@ -115,7 +115,7 @@ pub filled-stays : (o : Outcome) (r : Filled) (ws ns : List ℕ) (n w room room�
     → length ws ≡ room → length ns ≡ room′ → ReadInto o room room′ (Read n w) ws ns
 filled-stays (accepted sofar) r ws ns n w room room′ by e h h′ = record {
   answer = sym e ∙ by .answer;
-  words-are = by .words-are sofar refl ∙ ap (λ (x : ℕ). padded x (wordsOf (sofar .rules))) h;
+  words-are = by .words-are sofar refl ∙ ap (λ (x : ℕ). padded x (wordsOf (sofar .records))) h;
   names-are = by .names-are sofar refl ∙ ap (λ (x : ℕ). padded x (sofar .names)) h′;
 }
 filled-stays (refused x) r ws ns n w room room′ by e h h′ = absurd (read-is-not-refused n w x (sym e ∙ by .answer))

@@ -12,7 +12,7 @@ use Rattle.sheetwords.specs.Sheets.{Outcome, accepted, refused}
 
 -- what an outcome leaves in the buffers; a refused sheet leaves nothing
 abbrev pub wordsLeft : Outcome → List ℕ
-wordsLeft (accepted sofar) = wordsOf (sofar .rules)
+wordsLeft (accepted sofar) = wordsOf (sofar .records)
 wordsLeft (refused r) = []
 
 abbrev pub namesLeft : Outcome → List ℕ
@@ -21,13 +21,13 @@ namesLeft (refused r) = []
 
 -- the answer: N and the words filled, or the refusal
 abbrev pub filledBy : Outcome → Filled
-filledBy (accepted sofar) = Read (length (sofar .names)) (length (wordsOf (sofar .rules)))
+filledBy (accepted sofar) = Read (length (sofar .names)) (length (wordsOf (sofar .records)))
 filledBy (refused r) = Refused r
 
 -- what filling the buffers leaves: the answer, and where the sheet is accepted its words and names
 pub record FilledBy (o : Outcome) (r : Filled) (ws ns : List ℕ) : Type 0 where
   pub answer : r ≡ filledBy o
-  pub words-are : (sofar : Sofar) → o ≡ accepted sofar → ws ≡ padded (length ws) (wordsOf (sofar .rules))
+  pub words-are : (sofar : Sofar) → o ≡ accepted sofar → ws ≡ padded (length ws) (wordsOf (sofar .records))
   pub names-are : (sofar : Sofar) → o ≡ accepted sofar → ns ≡ padded (length ns) (sofar .names)
 
 -- a sheet has been read into buffers of so many entries: the answer, every word and every name entry

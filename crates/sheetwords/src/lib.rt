@@ -32,6 +32,7 @@ fn fill(sheet: &[u8], words: &mut [u16], names: &mut [u32]) -> Filled
     let mut counts = Counts {
         atoms: 0,
         words: 0,
+        line: 0,
         rule: 0,
         group: 0,
     };

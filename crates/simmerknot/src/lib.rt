@@ -26,7 +26,7 @@ pub extern "C" fn simmerknot_sheet(
 // SIMMERKNOT_VERSION of include/simmerknot.h: 1,000,000 × major + 1,000 × minor + patch.
 #[no_mangle]
 pub extern "C" fn simmerknot_version() -> u64
-    ensures { λ v. ⌜ v ≡ 2000 ⌝ }
+    ensures { λ v. ⌜ v ≡ 3000 ⌝ }
 {
-    2000
+    3000
 }

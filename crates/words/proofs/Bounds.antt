@@ -6,10 +6,10 @@ use native.Mathlib.Omega.{arith}
 use lib.Dec.{leb, ltb}
 use lib.ListN.{length}
 use Rattle.refusal.proofs.Places.{PlacesTo, orElse-to, to-more, asking-to}
-use Rattle.refusal.specs.Numbers.{too-many-atoms, table-too-long, not-a-literal, second-rule, wrong-length}
+use Rattle.refusal.specs.Numbers.{too-many-atoms, table-too-long, not-a-literal, second-rule, out-of-range}
 use Rattle.refusal.specs.declared.Checked.the-variants.{Accepted}
 use Rattle.words.specs.declared.Due.{Due}
-use Rattle.words.specs.declared.Due.the-variants.{Head, Count, Size, Literal}
+use Rattle.words.specs.declared.Due.the-variants.{Head, Line, Count, Size, Literal}
 use Rattle.refusal.specs.Checks.{asking}
 use Rattle.words.specs.Check.{codeFault, repeatFault, fault, ended, walk, seenAfter, next, noHeads, tableCheck}
 
@@ -17,12 +17,14 @@ fault-within : (N : ℕ) (seen : ℕ → Bool) (due : Due) (p w : ℕ) → Place
 fault-within N seen Head p w =
     orElse-to p (codeFault N p w) (repeatFault seen p w) (asking-to p (ltb w (2 * N)) (not-a-literal p) Accepted (omega arith, omega arith, omega arith) tt)
     (asking-to p (not (seen w)) (second-rule p) Accepted (omega arith, omega arith, omega arith) tt)
-fault-within N seen Count p w = asking-to p (leb 0 w && leb w 64) (wrong-length p) Accepted (omega arith, omega arith, omega arith) tt
-fault-within N seen (Size g) p w = asking-to p (leb 1 w && leb w 64) (wrong-length p) Accepted (omega arith, omega arith, omega arith) tt
+fault-within N seen Line p w = asking-to p (leb 0 w && leb w 32768) (out-of-range p) Accepted (omega arith, omega arith, omega arith) tt
+fault-within N seen Count p w = asking-to p (leb 0 w && leb w 64) (out-of-range p) Accepted (omega arith, omega arith, omega arith) tt
+fault-within N seen (Size g) p w = asking-to p (leb 1 w && leb w 64) (out-of-range p) Accepted (omega arith, omega arith, omega arith) tt
 fault-within N seen (Literal k g) p w = asking-to p (ltb w (2 * N)) (not-a-literal p) Accepted (omega arith, omega arith, omega arith) tt
 
 ended-within : (due : Due) (p : ℕ) → PlacesTo p (ended due p)
 ended-within Head p = tt
+ended-within Line p = (omega arith, omega arith, omega arith)
 ended-within Count p = (omega arith, omega arith, omega arith)
 ended-within (Size g) p = (omega arith, omega arith, omega arith)
 ended-within (Literal k g) p = (omega arith, omega arith, omega arith)

@@ -1,4 +1,4 @@
--- From an accepted walk to the rules whose words it has read.
+-- From an accepted walk to the records whose words it has read.
 use mathlib.Core.Path.{_≡_, refl, sym, ap, ap₂, _∙_, subst}
 use mathlib.Core.Logic.{⊎-elim}
 use mathlib.Core.List.{List, [], _∷_, _++_, append-assoc, List·Memᴰ·not-nil, List·Memᴰ·cases-cons}
@@ -10,14 +10,13 @@ use lib.Dec.{ltb, leb}
 use lib.ListN.{length, length-append}
 use borrow.Author.Tests.{ltb-true, leb-true, not-true}
 use Rattle.sets.proofs.Tests.{and-both}
-use Rattle.paper.specs.Rules.{Rule}
 use Rattle.sets.specs.Sets.{_∈_, _with_}
-use Rattle.refusal.specs.Numbers.{cut-short, wrong-length, second-rule}
+use Rattle.refusal.specs.Numbers.{cut-short, out-of-range, second-rule}
 use Rattle.refusal.specs.declared.Checked.the-variants.{Accepted}
-use Rattle.words.specs.declared.Due.the-variants.{Head, Count}
-use Rattle.words.specs.Layout.{groupsWords, wordsOf}
+use Rattle.words.specs.declared.Due.the-variants.{Head, Line, Count}
+use Rattle.words.specs.Layout.{TableRecord, groupsWords, wordsOf}
 use Rattle.refusal.specs.Checks.{asking}
-use Rattle.words.specs.Check.{codeFault, lengthFault, fault, groupsDue, literalsDue, walk}
+use Rattle.words.specs.Check.{codeFault, rangeFault, fault, groupsDue, literalsDue, walk}
 use Rattle.words.specs.Within.{GroupWithin}
 use Rattle.refusal.proofs.Laws.{refused≢accepted, asking-accepted, orElse-accepted}
 use Rattle.words.proofs.Steps.{head-below}
@@ -26,10 +25,10 @@ use Rattle.words.proofs.Good.{Good}
 literal-below : (N p w : ℕ) → codeFault N p w ≡ Accepted → w < 2 * N
 literal-below N p w e = ltb-true w (2 * N) (asking-accepted (ltb w (2 * N)) _ Accepted e .0)
 
-length-between : (least p w : ℕ) → lengthFault least p w ≡ Accepted → (least ≤ w) × (w ≤ 64)
-length-between least p w e =
-    let both = and-both (leb least w) (leb w 64) (asking-accepted (leb least w && leb w 64) (wrong-length p) Accepted e .0) in
-    (leb-true least w (both .0), leb-true w 64 (both .1))
+in-range : (least most p w : ℕ) → rangeFault least most p w ≡ Accepted → (least ≤ w) × (w ≤ most)
+in-range least most p w e =
+    let both = and-both (leb least w) (leb w most) (asking-accepted (leb least w && leb w most) (out-of-range p) Accepted e .0) in
+    (leb-true least w (both .0), leb-true w most (both .1))
 
 head-unseen : (N : ℕ) (seen : ℕ → Bool) (p w : ℕ) → fault N seen Head p w ≡ Accepted → seen w ≡ false
 head-unseen N seen p w e =
@@ -87,7 +86,7 @@ groups N seen zero p t e =
 groups N seen (suc g) p [] e = absurd (refused≢accepted _ e)
 groups N seen (suc g) p (k ∷ t) e =
     let both = orElse-accepted _ _ e in
-    let sizes = length-between 1 p k (both .0) in
+    let sizes = in-range 1 64 p k (both .0) in
     let one = literals N seen k g (suc p) t (both .1) in
     let ih = groups N seen g (one .place) (one .rest) (one .goes-on) in
     record {
@@ -102,38 +101,46 @@ groups N seen (suc g) p (k ∷ t) e =
       goes-on = ih .goes-on;
     }
 
--- head, number of groups, groups, and the words of the other rules
-record-words : (w m : ℕ) (t : List ℕ) (βs : List (List ℕ)) (rest : List ℕ) (R : List Rule)
-    → length βs ≡ m → t ≡ groupsWords βs ++ rest → rest ≡ wordsOf R → w ∷ m ∷ t ≡ wordsOf (record { head = w; groups = βs } ∷ R)
+-- head, line, number of groups, groups, and the words of the other records
+record-words : (w x m : ℕ) (t : List ℕ) (βs : List (List ℕ)) (rest : List ℕ) (Q : List TableRecord)
+    → length βs ≡ m → t ≡ groupsWords βs ++ rest → rest ≡ wordsOf Q
+    → w ∷ x ∷ m ∷ t ≡ wordsOf (record { line = x; rule = record { head = w; groups = βs } } ∷ Q)
 unfolding wordsOf
-record-words w m t βs rest R size split more =
-    ap₂ (λ (x : ℕ) (u : List ℕ). w ∷ x ∷ u) (sym size) (split ∙ ap (λ (u : List ℕ). groupsWords βs ++ u) more)
+record-words w x m t βs rest Q size split more =
+    ap₂ (λ (y : ℕ) (u : List ℕ). w ∷ x ∷ y ∷ u) (sym size) (split ∙ ap (λ (u : List ℕ). groupsWords βs ++ u) more)
 
 pub record Records (N : ℕ) (seen : ℕ → Bool) (t : List ℕ) : Type 0 where
-  pub R : List Rule
-  pub split : t ≡ wordsOf R
-  pub good : Good N seen R
+  pub Q : List TableRecord
+  pub split : t ≡ wordsOf Q
+  pub good : Good N seen Q
 
 pub records : (N : ℕ) (seen : ℕ → Bool) (n p : ℕ) (t : List ℕ) → length t ≤ n → walk N seen Head p t ≡ Accepted → Records N seen t
 unfolding walk wordsOf
-records N seen zero p [] h e = record { R = []; split = refl; good = tt }
-records N seen (suc n) p [] h e = record { R = []; split = refl; good = tt }
+records N seen zero p [] h e = record { Q = []; split = refl; good = tt }
+records N seen (suc n) p [] h e = record { Q = []; split = refl; good = tt }
 records N seen zero p (w ∷ t) h e = absurd (not-suc-le-zero h)
 records N seen (suc n) p (w ∷ []) h e =
-    absurd (refused≢accepted (cut-short (suc p)) (orElse-accepted (fault N seen Head p w) (walk N (seen with w) Count (suc p) []) e .1))
-records N seen (suc n) p (w ∷ m ∷ t) h e =
-    let first = orElse-accepted (fault N seen Head p w) (walk N (seen with w) Count (suc p) (m ∷ t)) e in
-    let second = orElse-accepted (fault N (seen with w) Count (suc p) m) (walk N (seen with w) (groupsDue m) (suc (suc p)) t) (first .1) in
-    let body = groups N (seen with w) m (suc (suc p)) t (second .1) in
-    let ih = records N (seen with w) n (body .place) (body .rest)
+    absurd (refused≢accepted (cut-short (suc p)) (orElse-accepted (fault N seen Head p w) (walk N (seen with w) Line (suc p) []) e .1))
+records N seen (suc n) p (w ∷ x ∷ []) h e =
+    let first = orElse-accepted (fault N seen Head p w) (walk N (seen with w) Line (suc p) (x ∷ [])) e in
+    absurd (refused≢accepted (cut-short (suc (suc p)))
+    (orElse-accepted (fault N (seen with w) Line (suc p) x) (walk N (seen with w) Count (suc (suc p)) []) (first .1) .1))
+records N seen (suc n) p (w ∷ x ∷ m ∷ t) h e =
+    let seen′ = seen with w in
+    let first = orElse-accepted (fault N seen Head p w) (walk N seen′ Line (suc p) (x ∷ m ∷ t)) e in
+    let second = orElse-accepted (fault N seen′ Line (suc p) x) (walk N seen′ Count (suc (suc p)) (m ∷ t)) (first .1) in
+    let third = orElse-accepted (fault N seen′ Count (suc (suc p)) m) (walk N seen′ (groupsDue m) (suc (suc (suc p))) t) (second .1) in
+    let body = groups N seen′ m (suc (suc (suc p))) t (third .1) in
+    let ih = records N seen′ n (body .place) (body .rest)
     (omega (arith, ap length (body .split), length-append (groupsWords (body .βs)) (body .rest))) (body .goes-on) in
     record {
-      R = record { head = w; groups = body .βs } ∷ ih .R;
-      split = record-words w m t (body .βs) (body .rest) (ih .R) (body .size) (body .split) (ih .split);
+      Q = record { line = x; rule = record { head = w; groups = body .βs } } ∷ ih .Q;
+      split = record-words w x m t (body .βs) (body .rest) (ih .Q) (body .size) (body .split) (ih .split);
       good = (
         head-below N seen p w (first .0),
         head-unseen N seen p w (first .0),
-        record { at-most-64 = omega (arith, body .size, length-between 0 (suc p) m (second .0) .1); each-group = body .each },
+        in-range 0 32768 (suc p) x (second .0) .1,
+        record { at-most-64 = omega (arith, body .size, in-range 0 64 (suc (suc p)) m (third .0) .1); each-group = body .each },
         ih .good,
       );
     }

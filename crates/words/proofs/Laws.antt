@@ -1,4 +1,4 @@
--- What an accepted table means, and that the words of rules within the limits are accepted.
+-- What an accepted table means, and that the words of records within the limits are accepted.
 use mathlib.Core.Path.{_≡_, refl, sym, ap, ap₂, _∙_, subst}
 use mathlib.Core.Logic.{⊎-elim}
 use mathlib.Core.List.{List, [], _∷_, List·Memᴰ·not-nil, List·Memᴰ·cases-cons}
@@ -14,15 +14,15 @@ use Rattle.refusal.specs.Numbers.{too-many-atoms, table-too-long}
 use Rattle.refusal.specs.declared.Checked.{Checked}
 use Rattle.refusal.specs.declared.Checked.the-variants.{Accepted}
 use Rattle.words.specs.declared.Due.the-variants.{Head}
-use Rattle.words.specs.Layout.{wordsOf, rulesOf}
+use Rattle.words.specs.Layout.{TableRecord, wordsOf, recordsOf, rulesOf}
 use Rattle.refusal.specs.Checks.{asking}
 use Rattle.words.specs.Check.{noHeads, walk, tableCheck, AcceptedTable}
 use Rattle.words.specs.Within.{DistinctHeads, Within}
 use Rattle.refusal.proofs.Laws.{asking-accepted}
-use Rattle.words.proofs.Reading.{rulesOf-wordsOf}
-use Rattle.words.proofs.Good.{good-heads, good-distinct, good-bodies, good-of}
+use Rattle.words.proofs.Reading.{recordsOf-wordsOf}
+use Rattle.words.proofs.Good.{good-heads, good-lines, good-distinct, good-bodies, good-of}
 use Rattle.words.proofs.FromWords.{Records, records}
-use Rattle.words.proofs.FromRules.{accept-records}
+use Rattle.words.proofs.FromRecords.{accept-records}
 
 -- with distinct heads there is only one rule for each head
 pub distinct-one-rule : (R : List Rule) → DistinctHeads R → OneRulePerHead R
@@ -44,39 +44,40 @@ pub accepted-length : (N : ℕ) (t : List ℕ) → AcceptedTable N t → length 
 unfolding tableCheck
 accepted-length N t a = leb-true (length t) 8192 (asking-accepted (leb (length t) 8192) _ _ (asking-accepted (leb N 512) _ _ a .1) .0)
 
-accepted-walk : (N : ℕ) (t : List ℕ) → AcceptedTable N t → walk N noHeads Head 0 t ≡ Accepted
+pub accepted-walk : (N : ℕ) (t : List ℕ) → AcceptedTable N t → walk N noHeads Head 0 t ≡ Accepted
 unfolding tableCheck
 accepted-walk N t a = asking-accepted (leb (length t) 8192) _ _ (asking-accepted (leb N 512) _ _ a .1) .1
 
 accepted-records : (N : ℕ) (t : List ℕ) → AcceptedTable N t → Records N noHeads t
 accepted-records N t a = records N noHeads (length t) 0 t (le-refl (length t)) (accepted-walk N t a)
 
--- an accepted table is the words of its rules
-pub wordsOf-rulesOf : (N : ℕ) (t : List ℕ) → AcceptedTable N t → wordsOf (rulesOf t) ≡ t
-wordsOf-rulesOf N t a =
+-- an accepted table is the words of its records
+pub wordsOf-recordsOf : (N : ℕ) (t : List ℕ) → AcceptedTable N t → wordsOf (recordsOf t) ≡ t
+wordsOf-recordsOf N t a =
     let read = accepted-records N t a in
-    ap wordsOf (ap rulesOf (read .split) ∙ rulesOf-wordsOf (read .R)) ∙ sym (read .split)
+    ap wordsOf (ap recordsOf (read .split) ∙ recordsOf-wordsOf (read .Q)) ∙ sym (read .split)
 
--- the rules of an accepted table are within document 01's limits
-pub accepted-within : (N : ℕ) (t : List ℕ) → AcceptedTable N t → Within N (rulesOf t)
+-- the records of an accepted table are within the limits
+pub accepted-within : (N : ℕ) (t : List ℕ) → AcceptedTable N t → Within N (recordsOf t)
 accepted-within N t a =
     let read = accepted-records N t a in
-    subst (Within N) (sym (ap rulesOf (read .split) ∙ rulesOf-wordsOf (read .R)))
+    subst (Within N) (sym (ap recordsOf (read .split) ∙ recordsOf-wordsOf (read .Q)))
     (record {
       at-most-512 = accepted-atoms N t a;
       at-most-8192 = subst (λ (u : List ℕ). length u ≤ 8192) (read .split) (accepted-length N t a);
-      heads-below = good-heads N noHeads (read .R) (read .good);
-      distinct-heads = good-distinct N noHeads (read .R) (read .good);
-      each-body = good-bodies N noHeads (read .R) (read .good);
+      each-line = good-lines N noHeads (read .Q) (read .good);
+      heads-below = good-heads N noHeads (read .Q) (read .good);
+      distinct-heads = good-distinct N noHeads (read .Q) (read .good);
+      each-body = good-bodies N noHeads (read .Q) (read .good);
     })
 
--- the words of rules within the limits are accepted
-pub within-accepted : (N : ℕ) (R : List Rule) → Within N R → AcceptedTable N (wordsOf R)
+-- the words of records within the limits are accepted
+pub within-accepted : (N : ℕ) (Q : List TableRecord) → Within N Q → AcceptedTable N (wordsOf Q)
 unfolding tableCheck
-within-accepted N R w =
-    ap₂ (λ (b b′ : Bool). asking b too-many-atoms (asking b′ table-too-long (walk N noHeads Head 0 (wordsOf R))))
-    (le-leb N 512 (w .at-most-512)) (le-leb (length (wordsOf R)) 8192 (w .at-most-8192))
-    ∙ accept-records N noHeads R 0 (good-of N noHeads R (w .heads-below) (w .distinct-heads) (w .each-body) (λ ρ m. refl))
+within-accepted N Q w =
+    ap₂ (λ (b b′ : Bool). asking b too-many-atoms (asking b′ table-too-long (walk N noHeads Head 0 (wordsOf Q))))
+    (le-leb N 512 (w .at-most-512)) (le-leb (length (wordsOf Q)) 8192 (w .at-most-8192))
+    ∙ accept-records N noHeads Q 0 (good-of N noHeads Q (w .heads-below) (w .distinct-heads) (w .each-line) (w .each-body) (λ ρ m. refl))
 
 pub accepted-one-rule : (N : ℕ) (t : List ℕ) → AcceptedTable N t → OneRulePerHead (rulesOf t)
 accepted-one-rule N t a = distinct-one-rule (rulesOf t) (accepted-within N t a .distinct-heads)

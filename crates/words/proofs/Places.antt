@@ -6,16 +6,15 @@ use native.Mathlib.Nat.{add-zero, add-assoc}
 use native.Mathlib.Omega.{arith}
 use lib.ListN.{length, getD, drop, length-drop}
 use lib.Seq.{drop-drop, getD-drop}
-use Rattle.paper.specs.Rules.{Rule}
-use Rattle.words.specs.Layout.{groupsWords, wordsOf}
+use Rattle.words.specs.Layout.{TableRecord, groupsWords, wordsOf, lineNumberAt, groupsAt, bodyAt}
 
--- from place i on stand the records of R
-abbrev pub RecordsAt : List ℕ → ℕ → List Rule → Type 0
-RecordsAt t i R = drop i t ≡ wordsOf R
+-- from place i on stand the records Q
+abbrev pub RecordsAt : List ℕ → ℕ → List TableRecord → Type 0
+RecordsAt t i Q = drop i t ≡ wordsOf Q
 
--- from place j on stand the groups βs, and then the records of R
-abbrev pub GroupsAt : List ℕ → ℕ → List (List ℕ) → List Rule → Type 0
-GroupsAt t j βs R = drop j t ≡ groupsWords βs ++ wordsOf R
+-- from place j on stand the groups βs, and then the records Q
+abbrev pub GroupsAt : List ℕ → ℕ → List (List ℕ) → List TableRecord → Type 0
+GroupsAt t j βs Q = drop j t ≡ groupsWords βs ++ wordsOf Q
 
 -- one word
 pub record WordAt (t : List ℕ) (i w : ℕ) (rest : List ℕ) : Type 0 where
@@ -30,27 +29,33 @@ word-at t i w rest e = record {
   after = sym (drop-drop 1 i t) ∙ ap (drop 1) e;
 }
 
--- a record: its head, its number of groups, and where its groups begin
-pub record RecordAt (t : List ℕ) (i : ℕ) (ρ : Rule) (R : List Rule) : Type 0 where
-  pub inside : i + 1 < length t
-  pub head : getD t i 0 ≡ ρ .head
-  pub count : getD t (i + 1) 0 ≡ length (ρ .groups)
-  pub groups : GroupsAt t (i + 2) (ρ .groups) R
+-- a record: its head, its line, its number of groups, and where its groups begin
+pub record RecordAt (t : List ℕ) (i : ℕ) (r : TableRecord) (Q : List TableRecord) : Type 0 where
+  pub inside : groupsAt i < length t
+  pub head : getD t i 0 ≡ r .rule .head
+  pub line : getD t (lineNumberAt i) 0 ≡ r .line
+  pub count : getD t (groupsAt i) 0 ≡ length (r .rule .groups)
+  pub groups : GroupsAt t (bodyAt i) (r .rule .groups) Q
 
-pub record-at : (t : List ℕ) (i : ℕ) (ρ : Rule) (R : List Rule) → RecordsAt t i (ρ ∷ R) → RecordAt t i ρ R
+pub record-at : (t : List ℕ) (i : ℕ) (r : TableRecord) (Q : List TableRecord) → RecordsAt t i (r ∷ Q) → RecordAt t i r Q
 unfolding wordsOf
-record-at t i ρ R e =
-    let one = word-at t i (ρ .head) (length (ρ .groups) ∷ (groupsWords (ρ .groups) ++ wordsOf R)) e in
-    let two = word-at t (i + 1) (length (ρ .groups)) (groupsWords (ρ .groups) ++ wordsOf R) (one .after) in
+record-at t i r Q e =
+    let m = length (r .rule .groups) in
+    let body = groupsWords (r .rule .groups) ++ wordsOf Q in
+    let one = word-at t i (r .rule .head) (r .line ∷ m ∷ body) e in
+    let two = word-at t (lineNumberAt i) (r .line) (m ∷ body) (one .after) in
+    let three = word-at t (groupsAt i) m body (ap (λ (x : ℕ). drop x t) (sym (add-assoc i 1 1)) ∙ two .after) in
     record {
-      inside = two .inside;
+      inside = three .inside;
       head = one .word;
-      count = two .word;
-      groups = ap (λ (x : ℕ). drop x t) (sym (add-assoc i 1 1)) ∙ two .after;
+      line = two .word;
+      count = three .word;
+      groups = ap (λ (x : ℕ). drop x t) (sym (add-assoc i 2 1)) ∙ three .after;
     }
 
 -- before the end there is a record to come
-pub some-record : (t : List ℕ) (i : ℕ) (R : List Rule) → i < length t → RecordsAt t i R → (ρ : Rule) × (S : List Rule) × (R ≡ ρ ∷ S)
+pub some-record : (t : List ℕ) (i : ℕ) (Q : List TableRecord) → i < length t → RecordsAt t i Q
+    → (r : TableRecord) × (rest : List TableRecord) × (Q ≡ r ∷ rest)
 unfolding wordsOf
 some-record t i [] h e = absurd (omega (arith, length-drop i t, ap length e))
-some-record t i (ρ ∷ R) h e = (ρ, R, refl)
+some-record t i (r ∷ Q) h e = (r, Q, refl)

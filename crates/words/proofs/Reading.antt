@@ -1,4 +1,4 @@
--- Reading the words of rules gives the rules back.
+-- Reading the words of records gives the records back.
 use mathlib.Core.Path.{_≡_, refl, ap, ap₂, _∙_}
 use mathlib.Core.List.{List, [], _∷_, _++_, append-assoc}
 use Prim.Native.Nat.{ℕ, zero, suc, _≤_}
@@ -6,8 +6,7 @@ use native.Mathlib.Nat.{not-suc-le-zero, le-refl}
 use native.Mathlib.Omega.{arith}
 use lib.ListN.{length, drop, length-drop, length-append}
 use lib.Seq.{take-append-seam, drop-append-seam}
-use Rattle.paper.specs.Rules.{Rule}
-use Rattle.words.specs.Layout.{groupsWords, wordsOf, takeGroups, dropGroups, rulesWithin, rulesOf}
+use Rattle.words.specs.Layout.{TableRecord, groupsWords, wordsOf, takeGroups, dropGroups, recordsWithin, recordsOf}
 use Rattle.words.specs.RecordAt.{WholeGroups}
 
 pub takeGroups-groupsWords : (βs : List (List ℕ)) (rest : List ℕ) → takeGroups (length βs) (groupsWords βs ++ rest) ≡ βs
@@ -47,37 +46,47 @@ length-dropGroups (suc m) [] = le-refl 0
 length-dropGroups (suc m) (k ∷ t) = omega (arith, length-dropGroups m (drop k t), length-drop k t)
 
 -- more records than words change nothing
-rulesWithin-enough : (n n′ : ℕ) (t : List ℕ) → length t ≤ n → length t ≤ n′ → rulesWithin n t ≡ rulesWithin n′ t
-unfolding rulesWithin
-rulesWithin-enough zero zero [] h h′ = refl
-rulesWithin-enough zero (suc n′) [] h h′ = refl
-rulesWithin-enough (suc n) zero [] h h′ = refl
-rulesWithin-enough (suc n) (suc n′) [] h h′ = refl
-rulesWithin-enough zero n′ (w ∷ t) h h′ = absurd (not-suc-le-zero h)
-rulesWithin-enough (suc n) zero (w ∷ t) h h′ = absurd (not-suc-le-zero h′)
-rulesWithin-enough (suc n) (suc n′) (w ∷ []) h h′ = refl
-rulesWithin-enough (suc n) (suc n′) (w ∷ m ∷ t) h h′ =
-    ap (λ (R : List Rule). record { head = w; groups = takeGroups m t } ∷ R)
-    (rulesWithin-enough n n′ (dropGroups m t) (omega (arith, length-dropGroups m t)) (omega (arith, length-dropGroups m t)))
+recordsWithin-enough : (n n′ : ℕ) (t : List ℕ) → length t ≤ n → length t ≤ n′ → recordsWithin n t ≡ recordsWithin n′ t
+unfolding recordsWithin
+recordsWithin-enough zero zero [] h h′ = refl
+recordsWithin-enough zero (suc n′) [] h h′ = refl
+recordsWithin-enough (suc n) zero [] h h′ = refl
+recordsWithin-enough (suc n) (suc n′) [] h h′ = refl
+recordsWithin-enough zero n′ (w ∷ t) h h′ = absurd (not-suc-le-zero h)
+recordsWithin-enough (suc n) zero (w ∷ t) h h′ = absurd (not-suc-le-zero h′)
+recordsWithin-enough (suc n) (suc n′) (w ∷ []) h h′ = refl
+recordsWithin-enough (suc n) (suc n′) (w ∷ x ∷ []) h h′ = refl
+recordsWithin-enough (suc n) (suc n′) (w ∷ x ∷ m ∷ t) h h′ =
+    ap (λ (Q : List TableRecord). record { line = x; rule = record { head = w; groups = takeGroups m t } } ∷ Q)
+    (recordsWithin-enough n n′ (dropGroups m t) (omega (arith, length-dropGroups m t)) (omega (arith, length-dropGroups m t)))
 
--- the empty table has no rules
-pub rulesOf-nothing : rulesOf [] ≡ []
-unfolding rulesOf rulesWithin
-rulesOf-nothing = refl
+-- the empty table has no records
+pub recordsOf-nothing : recordsOf [] ≡ []
+unfolding recordsOf recordsWithin
+recordsOf-nothing = refl
 
--- the first record, and the rules of the words after it
-pub rulesOf-record : (h m : ℕ) (t : List ℕ) → rulesOf (h ∷ m ∷ t) ≡ record { head = h; groups = takeGroups m t } ∷ rulesOf (dropGroups m t)
-unfolding rulesOf rulesWithin
-rulesOf-record h m t =
-    ap (λ (R : List Rule). record { head = h; groups = takeGroups m t } ∷ R)
-    (rulesWithin-enough (suc (length t)) (length (dropGroups m t)) (dropGroups m t) (omega (arith, length-dropGroups m t)) (le-refl (length (dropGroups m t))))
+-- the first record, and the records of the words after it
+pub recordsOf-record : (h x m : ℕ) (t : List ℕ)
+    → recordsOf (h ∷ x ∷ m ∷ t) ≡ record { line = x; rule = record { head = h; groups = takeGroups m t } } ∷ recordsOf (dropGroups m t)
+unfolding recordsOf recordsWithin
+recordsOf-record h x m t =
+    ap (λ (Q : List TableRecord). record { line = x; rule = record { head = h; groups = takeGroups m t } } ∷ Q)
+    (recordsWithin-enough (suc (suc (length t))) (length (dropGroups m t)) (dropGroups m t) (omega (arith, length-dropGroups m t))
+    (le-refl (length (dropGroups m t))))
 
--- the rules of the words of rules
-pub rulesOf-wordsOf : (R : List Rule) → rulesOf (wordsOf R) ≡ R
+-- there are no more records than words
+pub records-fit : (Q : List TableRecord) → length Q ≤ length (wordsOf Q)
 unfolding wordsOf
-rulesOf-wordsOf [] = rulesOf-nothing
-rulesOf-wordsOf (ρ ∷ R) =
-    rulesOf-record (ρ .head) (length (ρ .groups)) (groupsWords (ρ .groups) ++ wordsOf R)
-    ∙ ap₂ (λ (βs : List (List ℕ)) (S : List Rule). record { head = ρ .head; groups = βs } ∷ S)
-    (takeGroups-groupsWords (ρ .groups) (wordsOf R))
-    (ap rulesOf (dropGroups-groupsWords (ρ .groups) (wordsOf R)) ∙ rulesOf-wordsOf R)
+records-fit [] = le-refl 0
+records-fit (r ∷ Q) = omega (arith, records-fit Q, length-append (groupsWords (r .rule .groups)) (wordsOf Q))
+
+-- the records of the words of records
+pub recordsOf-wordsOf : (Q : List TableRecord) → recordsOf (wordsOf Q) ≡ Q
+unfolding wordsOf
+recordsOf-wordsOf [] = recordsOf-nothing
+recordsOf-wordsOf (r ∷ Q) =
+    let ρ = r .rule in
+    recordsOf-record (ρ .head) (r .line) (length (ρ .groups)) (groupsWords (ρ .groups) ++ wordsOf Q)
+    ∙ ap₂ (λ (βs : List (List ℕ)) (S : List TableRecord). record { line = r .line; rule = record { head = ρ .head; groups = βs } } ∷ S)
+    (takeGroups-groupsWords (ρ .groups) (wordsOf Q))
+    (ap recordsOf (dropGroups-groupsWords (ρ .groups) (wordsOf Q)) ∙ recordsOf-wordsOf Q)

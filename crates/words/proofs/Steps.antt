@@ -11,17 +11,17 @@ use lib.ListN.{length, getD, drop, replicate, drop-of-length-le}
 use lib.Seq.{drop-cons}
 use borrow.Author.Tests.{ltb-true, lt-leb}
 use Rattle.refusal.proofs.Laws.{asking-accepted, orElse-accepted}
-use Rattle.refusal.specs.Numbers.{wrong-length}
+use Rattle.refusal.specs.Numbers.{out-of-range}
 use Rattle.refusal.specs.declared.Refusal.{Refusal}
 use Rattle.bits.specs.Sets.{member}
 use Rattle.bits.proofs.Laws.{member-putIn, length-putIn, member-of-zeros}
 use Rattle.refusal.specs.declared.Checked.{Checked}
 use Rattle.refusal.specs.declared.Checked.the-variants.{Accepted, Refused}
 use Rattle.words.specs.declared.Due.{Due}
-use Rattle.words.specs.declared.Due.the-variants.{Head, Count, Size, Literal}
+use Rattle.words.specs.declared.Due.the-variants.{Head, Line, Count, Size, Literal}
 use Rattle.words.specs.Flags.{noted}
 use Rattle.refusal.specs.Checks.{asking, orElse}
-use Rattle.words.specs.Check.{lengthFault, fault, groupsDue, literalsDue, next, seenAfter, noHeads, walk, ended}
+use Rattle.words.specs.Check.{rangeFault, fault, groupsDue, literalsDue, next, seenAfter, noHeads, walk, ended}
 
 pub groupsDue-some : (g : ℕ) → (g ≡ 0 → ⊥) → Size (g - 1) ≡ groupsDue g
 groupsDue-some zero h = absurd (h refl)
@@ -31,12 +31,12 @@ pub literalsDue-some : (k g : ℕ) → (k ≡ 0 → ⊥) → Literal (k - 1) g �
 literalsDue-some zero g h = absurd (h refl)
 literalsDue-some (suc k) g h = ap (λ (x : ℕ). Literal x g) (omega arith)
 
--- a number of groups or a length that is not allowed
-pub wrong-length-found : (least p w : ℕ) → (w < least) ⊎ (64 < w) → Refused (wrong-length p) ≡ lengthFault least p w
-wrong-length-found least p w (inl h) = sym (ap (λ (b : Bool). asking (b && leb w 64) (wrong-length p) Accepted) (lt-leb least w h))
-wrong-length-found least p w (inr h) =
-    sym (ap (λ (b : Bool). asking (leb least w && b) (wrong-length p) Accepted) (lt-leb w 64 h)
-    ∙ ap (λ (b : Bool). asking b (wrong-length p) Accepted) (and-false (leb least w)))
+-- a word below the least or above the most
+pub out-of-range-found : (least most p w : ℕ) → (w < least) ⊎ (most < w) → Refused (out-of-range p) ≡ rangeFault least most p w
+out-of-range-found least most p w (inl h) = sym (ap (λ (b : Bool). asking (b && leb w most) (out-of-range p) Accepted) (lt-leb least w h))
+out-of-range-found least most p w (inr h) =
+    sym (ap (λ (b : Bool). asking (leb least w && b) (out-of-range p) Accepted) (lt-leb w most h)
+    ∙ ap (λ (b : Bool). asking b (out-of-range p) Accepted) (and-false (leb least w)))
 
 -- an accepted head is a literal of the N atoms
 pub head-below : (N : ℕ) (seen : ℕ → Bool) (p w : ℕ) → fault N seen Head p w ≡ Accepted → w < 2 * N
@@ -46,12 +46,14 @@ head-below N seen p w e = ltb-true w (2 * N) (asking-accepted (ltb w (2 * N)) _ 
 seen-noted : (N : ℕ) (s : List ℕ) (due : Due) (p w : ℕ) → N ≤ 512 → length s ≡ 16 → fault N (member s) due p w ≡ Accepted
     → seenAfter due (member s) w ≡ member (noted due s w)
 seen-noted N s Head p w n l e = sym (member-putIn s w (omega (arith, head-below N (member s) p w e)))
+seen-noted N s Line p w n l e = refl
 seen-noted N s Count p w n l e = refl
 seen-noted N s (Size g) p w n l e = refl
 seen-noted N s (Literal k g) p w n l e = refl
 
 length-noted : (due : Due) (s : List ℕ) (w : ℕ) → length (noted due s w) ≡ length s
 length-noted Head s w = length-putIn s w
+length-noted Line s w = refl
 length-noted Count s w = refl
 length-noted (Size g) s w = refl
 length-noted (Literal k g) s w = refl

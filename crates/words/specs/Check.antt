@@ -6,13 +6,13 @@ use Prim.Native.Nat.{ℕ, zero, suc, _*_}
 use lib.Dec.{leb, ltb}
 use lib.ListN.{length}
 use Rattle.refusal.specs.Checks.{orElse, asking}
-use Rattle.limits.specs.Limits.{mostAtoms, mostWords, mostInBody}
-use Rattle.refusal.specs.Numbers.{too-many-atoms, table-too-long, cut-short, not-a-literal, wrong-length, second-rule}
+use Rattle.limits.specs.Limits.{mostAtoms, mostWords, mostInBody, mostLine}
+use Rattle.refusal.specs.Numbers.{too-many-atoms, table-too-long, cut-short, not-a-literal, out-of-range, second-rule}
 use Rattle.sets.specs.Sets.{_with_}
 use Rattle.refusal.specs.declared.Checked.{Checked}
 use Rattle.refusal.specs.declared.Checked.the-variants.{Accepted, Refused}
 use Rattle.words.specs.declared.Due.{Due}
-use Rattle.words.specs.declared.Due.the-variants.{Head, Count, Size, Literal}
+use Rattle.words.specs.declared.Due.the-variants.{Head, Line, Count, Size, Literal}
 
 -- a literal code below 2N
 abbrev pub codeFault : ℕ → ℕ → ℕ → Checked
@@ -22,15 +22,16 @@ codeFault N p w = asking (ltb w (2 * N)) (not-a-literal p) Accepted
 abbrev pub repeatFault : (ℕ → Bool) → ℕ → ℕ → Checked
 repeatFault seen p w = asking (not (seen w)) (second-rule p) Accepted
 
--- a number of groups or a length: at most 64, and not below the least
-abbrev pub lengthFault : ℕ → ℕ → ℕ → Checked
-lengthFault least p w = asking (leb least w && leb w mostInBody) (wrong-length p) Accepted
+-- a line, a number of groups or a length: not below the least, and not above the most
+abbrev pub rangeFault : ℕ → ℕ → ℕ → ℕ → Checked
+rangeFault least most p w = asking (leb least w && leb w most) (out-of-range p) Accepted
 
 -- the fault of a word at place p, by what is due there; `seen` are the heads before it
 abbrev pub fault : ℕ → (ℕ → Bool) → Due → ℕ → ℕ → Checked
 fault N seen Head p w = orElse (codeFault N p w) (repeatFault seen p w)
-fault N seen Count p w = lengthFault 0 p w
-fault N seen (Size g) p w = lengthFault 1 p w
+fault N seen Line p w = rangeFault 0 mostLine p w
+fault N seen Count p w = rangeFault 0 mostInBody p w
+fault N seen (Size g) p w = rangeFault 1 mostInBody p w
 fault N seen (Literal k g) p w = codeFault N p w
 
 -- g groups are to come: the length of the first is due, or the next head
@@ -45,7 +46,8 @@ literalsDue (suc k) g = Literal k g
 
 -- what is due after a word
 abbrev pub next : Due → ℕ → Due
-next Head w = Count
+next Head w = Line
+next Line w = Count
 next Count m = groupsDue m
 next (Size g) k = literalsDue k g
 next (Literal k g) w = literalsDue k g
@@ -53,6 +55,7 @@ next (Literal k g) w = literalsDue k g
 -- the heads seen after a word
 abbrev pub seenAfter : Due → (ℕ → Bool) → ℕ → ℕ → Bool
 seenAfter Head seen w = seen with w
+seenAfter Line seen w = seen
 seenAfter Count seen w = seen
 seenAfter (Size g) seen w = seen
 seenAfter (Literal k g) seen w = seen
@@ -60,6 +63,7 @@ seenAfter (Literal k g) seen w = seen
 -- the words end, so many of them: between two records, or inside one
 abbrev pub ended : Due → ℕ → Checked
 ended Head words = Accepted
+ended Line words = Refused (cut-short words)
 ended Count words = Refused (cut-short words)
 ended (Size g) words = Refused (cut-short words)
 ended (Literal k g) words = Refused (cut-short words)

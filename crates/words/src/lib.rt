@@ -6,20 +6,23 @@ ghost use Rattle.limits.specs.Limits.{mostAtoms};
 ghost use Rattle.bits.specs.Sets.{member};
 ghost use Rattle.refusal.specs.Numbers.{refusal};
 ghost use Rattle.words.specs.Flags.{noted};
-ghost use Rattle.words.specs.Check.{fault, codeFault, repeatFault, lengthFault, groupsDue, literalsDue, next, ended, noHeads, walk, tableTooLong, tableCheck};
+ghost use Rattle.words.specs.Check.{fault, codeFault, repeatFault, rangeFault, groupsDue, literalsDue, next, ended, noHeads, walk, tableTooLong, tableCheck};
 
 // What the next word is. A length or a literal says how many groups come after its own, a literal how many after it in its group.
 pub enum Due {
     Head,
+    Line,
     Count,
     Size(usize),
     Literal(usize, usize),
 }
 
-// A record: its head, then the number of its groups, then its groups (groupsAt, bodyAt in specs/Layout.antt).
-pub const GROUPS: usize = 1;
+// A record: its head, then its line, then the number of its groups, then its groups (lineNumberAt, groupsAt, bodyAt in specs/Layout.antt).
+pub const LINE: usize = 1;
 
-pub const BODY: usize = 2;
+pub const GROUPS: usize = 2;
+
+pub const BODY: usize = 3;
 
 // A group: its length, then its literals (literalsAt); the words of a group of one literal (afterOne).
 pub const LITERALS: usize = 1;
@@ -61,14 +64,14 @@ fn repeat_fault(seen: &[u64], at: usize, w: usize) -> Checked
     }
 }
 
-// A number of groups or a length is at most 64, and not below the least.
-fn length_fault(least: usize, at: usize, w: usize) -> Checked
-    ensures { λ r. ⌜ r ≡ lengthFault least at w ⌝ }
+// A line, a number of groups or a length is at least `least` and at most `most`.
+fn range_fault(least: usize, most: usize, at: usize, w: usize) -> Checked
+    ensures { λ r. ⌜ r ≡ rangeFault least most at w ⌝ }
 {
-    if least <= w && w <= limits::MOST_IN_BODY {
+    if least <= w && w <= most {
         Checked::Accepted
     } else {
-        refusal::refused(refusal::WRONG_LENGTH, at)
+        refusal::refused(refusal::OUT_OF_RANGE, at)
     }
 }
 
@@ -79,8 +82,9 @@ fn fault_of(n: usize, seen: &[u64], due: Due, at: usize, w: usize) -> Checked
 {
     match due {
         Due::Head => refusal::first_of(code_fault(n, at, w), repeat_fault(seen, at, w)),
-        Due::Count => length_fault(0, at, w),
-        Due::Size(_) => length_fault(1, at, w),
+        Due::Line => range_fault(0, limits::MOST_LINE, at, w),
+        Due::Count => range_fault(0, limits::MOST_IN_BODY, at, w),
+        Due::Size(_) => range_fault(1, limits::MOST_IN_BODY, at, w),
         Due::Literal(_, _) => code_fault(n, at, w),
     }
 }
@@ -108,7 +112,8 @@ fn next_due(due: Due, w: usize) -> Due
     ensures { λ r. ⌜ r ≡ next due w ⌝ }
 {
     match due {
-        Due::Head => Due::Count,
+        Due::Head => Due::Line,
+        Due::Line => Due::Count,
         Due::Count => groups_due(w),
         Due::Size(g) => literals_due(w, g),
         Due::Literal(k, g) => literals_due(k, g),
@@ -121,6 +126,7 @@ fn note(seen: &mut [u64], due: Due, w: usize)
 {
     match due {
         Due::Head => bits::put(seen, w),
+        Due::Line => {}
         Due::Count => {}
         Due::Size(_) => {}
         Due::Literal(_, _) => {}
@@ -133,6 +139,7 @@ fn ended_at(due: Due, words: usize) -> Checked
 {
     match due {
         Due::Head => Checked::Accepted,
+        Due::Line => refusal::refused(refusal::CUT_SHORT, words),
         Due::Count => refusal::refused(refusal::CUT_SHORT, words),
         Due::Size(_) => refusal::refused(refusal::CUT_SHORT, words),
         Due::Literal(_, _) => refusal::refused(refusal::CUT_SHORT, words),

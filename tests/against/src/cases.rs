@@ -75,6 +75,7 @@ impl Tally {
             assert!(outcomes.contains(&outcome.as_str()), "'{outcome}' should not be met: {self:#?}");
         }
     }
+
     /// Cases that were each of these were met so many times.
     pub fn expect_also(&self, least: &[(&str, u64)]) {
         println!("among them {:?}", self.also);

@@ -10,4 +10,5 @@ pub mod guard;
 pub mod host;
 pub mod sheets;
 pub mod shrink;
+pub mod tables;
 pub mod trace;

@@ -1,8 +1,8 @@
 //! The reader and the sheet entry of `tests/probe.h`, and what to note of a sheet.
 
-use second::random::{heads_and_others, lines_length};
+use second::random::{heads_and_others, lines_length, word_count};
 use second::reader::{Reading, Role, SheetLiteral};
-use second::refusal::{Refusal, TEXT_ROOM_TOO_SMALL};
+use second::refusal::{MOST_WORDS, Refusal, TEXT_ROOM_TOO_SMALL, WORDS_PASS_8192};
 use second::sheet::Accepted;
 
 use crate::cases::Tally;
@@ -115,9 +115,25 @@ pub const ONLY_IN_BODIES: &str = "accepted with names only in bodies";
 /// A sheet whose text room is too small by the lines of such names alone.
 pub const ROOM_FOR_HEADS: &str = "15 with room for the lines of the heads";
 
-/// Notes the answer to a sheet with a text room of so many bytes, and which of these two it was.
+/// An accepted sheet of a hundred lines or more.
+pub const MANY_LINES: &str = "accepted with a hundred lines or more";
+
+/// 14 at a literal with which two words for a head would not pass 8,192.
+pub const NOT_BY_TWO: &str = "14 only by three words for a head";
+
+/// Notes the answer to a sheet with a text room of so many bytes, and which of these it was.
 pub fn note<T>(tally: &mut Tally, sheet: &[u8], room: usize, answer: &Result<T, Refusal>) {
     tally.answer("sheet", answer);
+    if let Err(Refusal { number: WORDS_PASS_8192, place }) = answer {
+        let start = *place as usize;
+        let length = sheet[start..].iter().take_while(|byte| !b"\t \n".contains(byte)).count();
+        if word_count(&sheet[..start + length], 2) <= MOST_WORDS {
+            tally.also(NOT_BY_TWO);
+        }
+    }
+    if answer.is_ok() && sheet.iter().filter(|&&byte| byte == b'\n').count() >= 100 {
+        tally.also(MANY_LINES);
+    }
     let (heads, others) = match answer {
         Ok(_) | Err(Refusal { number: TEXT_ROOM_TOO_SMALL, .. }) => heads_and_others(sheet),
         Err(_) => return,

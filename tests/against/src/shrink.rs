@@ -1,6 +1,7 @@
 //! Smaller inputs on which a test still fails.
 
-use second::table::{Rule, encode, parse};
+use second::random::line_places;
+use second::table::{Record, encode, parse};
 
 /// The row without parts that the failure does not need: no further part, down to a single element, can go.
 pub fn without_parts<T: Clone>(row: &[T], mut fails: impl FnMut(&[T]) -> bool) -> Vec<T> {
@@ -35,29 +36,41 @@ pub fn smaller(number: u64, mut fails: impl FnMut(u64) -> bool) -> u64 {
     candidates.into_iter().find(|&n| fails(n)).unwrap_or(number)
 }
 
-/// A table without the rules, groups, literals and words that the failure does not need.
+/// A table without the records, groups, literals, lines and words that the failure does not need.
 pub fn smaller_table(words: &[u16], mut fails: impl FnMut(&[u16]) -> bool) -> Vec<u16> {
-    let mut words = words.to_vec();
-    if let Ok(rules) = parse(512, &words) {
-        let mut rules = without_parts(&rules, |rules| fails(&encode(rules)));
-        for r in 0..rules.len() {
-            let with = |groups: &[Vec<usize>]| -> Vec<Rule> {
-                let mut tried = rules.clone();
-                tried[r].groups = groups.to_vec();
-                tried
-            };
-            let mut groups = without_parts(&rules[r].groups, |groups| fails(&encode(&with(groups))));
-            for g in 0..groups.len() {
-                let group = groups[g].clone();
-                groups[g] = without_parts(&group, |group| {
-                    let mut tried = groups.clone();
-                    tried[g] = group.to_vec();
-                    fails(&encode(&with(&tried)))
-                });
-            }
-            rules[r].groups = groups;
+    let (records, rest) = sound_part(words);
+    let mut fails_with = |records: &[Record]| fails(&[encode(records), rest.clone()].concat());
+    let mut records = without_parts(&records, |records| fails_with(records));
+    for r in 0..records.len() {
+        let line = smaller(records[r].line as u64, |line| {
+            let mut tried = records.clone();
+            tried[r].line = line as usize;
+            fails_with(&tried)
+        });
+        records[r].line = line as usize;
+        let with = |groups: &[Vec<usize>]| -> Vec<Record> {
+            let mut tried = records.clone();
+            tried[r].rule.groups = groups.to_vec();
+            tried
+        };
+        let mut groups = without_parts(&records[r].rule.groups, |groups| fails_with(&with(groups)));
+        for g in 0..groups.len() {
+            let group = groups[g].clone();
+            groups[g] = without_parts(&group, |group| {
+                let mut tried = groups.clone();
+                tried[g] = group.to_vec();
+                fails_with(&with(&tried))
+            });
         }
-        words = encode(&rules);
+        records[r].rule.groups = groups;
     }
-    without_parts(&words, fails)
+    without_parts(&[encode(&records), rest.clone()].concat(), fails)
+}
+
+/// The records in front that are sound, and the words from the first one that is not.
+fn sound_part(words: &[u16]) -> (Vec<Record>, Vec<u16>) {
+    let heads = line_places(words).into_iter().map(|line| line - 1);
+    let ends: Vec<usize> = heads.chain([words.len()]).collect();
+    let sound = |end: usize| Some((parse(512, &words[..end]).ok()?, words[end..].to_vec()));
+    ends.into_iter().rev().find_map(sound).unwrap_or((Vec::new(), words.to_vec()))
 }

@@ -10,6 +10,7 @@ use second::table;
 use crate::cases::Tally;
 use crate::entries::{ALREADY_MARKED, Answer, Entries, MARKED, Second};
 use crate::shrink::{smaller, smaller_table, without_parts};
+use crate::tables;
 
 /// One call; a table is named by its number in the trace.
 #[derive(Clone, Debug, PartialEq, Eq)]
@@ -77,7 +78,7 @@ pub fn parting(trace: &Trace, engine: &impl Entries, tally: &mut Tally) -> Optio
                     Ok(MARKED) => tally.note("pick marked"),
                     Ok(ALREADY_MARKED) => tally.note("pick already marked"),
                     Ok(_) => tally.note("pick cannot be marked now"),
-                    Err(_) => tally.answer("pick", &right),
+                    Err(_) => tables::note(tally, "pick", words, &right),
                 }
                 (left, right)
             }
@@ -86,7 +87,7 @@ pub fn parting(trace: &Trace, engine: &impl Entries, tally: &mut Tally) -> Optio
                 let right = Second.settled(&theirs, words);
                 match right {
                     Ok(yes) => tally.note(if yes == 1 { "settled yes" } else { "settled no" }),
-                    Err(_) => tally.answer("settled", &right),
+                    Err(_) => tables::note(tally, "settled", words, &right),
                 }
                 (engine.settled(&ours, words), right)
             }
@@ -96,7 +97,7 @@ pub fn parting(trace: &Trace, engine: &impl Entries, tally: &mut Tally) -> Optio
                 let mut expected = values.clone();
                 let left = engine.report(&ours, words, &mut values);
                 let right = Second.report(&theirs, words, &mut expected);
-                tally.answer("report", &right);
+                tables::note(tally, "report", words, &right);
                 if values != expected {
                     return differs(format!("value room: {values:?}, not {expected:?}"));
                 }
@@ -213,8 +214,12 @@ pub fn random_trace(chance: &mut Chance, plan: Plan) -> Trace {
     }
     for words in tables.iter_mut() {
         if chance.percent(plan.damaged) {
-            let damage = chance.of(&random::TABLE_DAMAGES[1..]);
-            random::damage_table(chance, &mut n.clone(), words, damage);
+            if chance.one_in(6) {
+                random::damage_record(chance, n, words);
+            } else {
+                let damage = chance.of(&random::TABLE_DAMAGES[1..]);
+                random::damage_table(chance, &mut n.clone(), words, damage);
+            }
         }
     }
     let mut steps = vec![Step::Fresh(n)];
@@ -235,7 +240,7 @@ pub fn random_trace(chance: &mut Chance, plan: Plan) -> Trace {
 
 /// A record by hand: any, refused ones among them; the settled one of the table, or a part of it.
 fn forged(chance: &mut Chance, n: u64, words: &[u16]) -> MarkRecord {
-    match table::parse(n, words) {
+    match table::rules_of(n, words) {
         Ok(rules) if n <= 512 && chance.one_in(2) => {
             let marked = model::settle(n, &rules).expect("N marks settle");
             let mut record = MarkRecord { n, marks: [0; 8] };

@@ -3,6 +3,7 @@
 use against::cases::{Tally, cases};
 use against::entries::{Answer, Engine, Entries, Second};
 use against::shrink::{smaller, smaller_table};
+use against::tables::{self, expect_of_lines};
 use against::trace::passes_until_settled;
 use second::random::{self, Chance};
 use second::tables::{EXAMPLES, MEASURED};
@@ -20,7 +21,7 @@ fn both(n: u64, words: &[u16], room: &[u8]) -> [(Answer, Vec<u8>); 2] {
 /// Both sides answer the same and leave the same bytes; if not, the smallest table found is shown.
 fn compare(n: u64, words: &[u16], room: &[u8], tally: &mut Tally) {
     let [engine, second] = both(n, words, room);
-    tally.answer("evaluate", &second.0);
+    tables::note(tally, "evaluate", words, &second.0);
     if engine != second {
         let differ = |n: u64, words: &[u16]| {
             let [engine, second] = both(n, words, room);
@@ -43,6 +44,7 @@ fn random_and_damaged_tables() {
         compare(n, &words, &room, &mut tally);
     }
     tally.expect(&REFUSALS, cases(500));
+    expect_of_lines(&tally, cases(200));
 }
 
 #[test]

@@ -10,6 +10,7 @@ mod evaluate {
     use against::guard::Guarded;
     use against::host;
     use against::shrink::{smaller, without_parts};
+    use against::tables::{self, expect_of_lines};
     use second::host::simmerknot_evaluate as second_evaluate;
     use second::random::{self, Chance, table_bytes};
     use second::tables::{EXAMPLES, MEASURED};
@@ -17,6 +18,11 @@ mod evaluate {
     const OUTCOMES: [&str; 8] = [
         "evaluate ok", "evaluate 1", "evaluate 2", "evaluate 3", "evaluate 4", "evaluate 5", "evaluate 6", "evaluate 7",
     ];
+
+    /// The whole words of a table's bytes.
+    fn words_of(table: &[u8]) -> Vec<u16> {
+        table.chunks_exact(2).map(|pair| u16::from_le_bytes([pair[0], pair[1]])).collect()
+    }
 
     /// The engine's packed answer and the value room after it.
     fn engine(n: u64, table: &[u8], room: &[u8], before: usize) -> (u64, Vec<u8>) {
@@ -37,7 +43,7 @@ mod evaluate {
     /// Both sides answer the same and leave the same bytes; if not, the smallest table found is shown.
     fn compare(n: u64, table: &[u8], room: &[u8], before: usize, tally: &mut Tally) {
         let expected = second(n, table, room);
-        tally.answer("evaluate", &unpacked(expected.0));
+        tables::note(tally, "evaluate", &words_of(table), &unpacked(expected.0));
         if engine(n, table, room, before) != expected {
             let differ = |n: u64, table: &[u8]| engine(n, table, room, before) != second(n, table, room);
             let table = without_parts(table, |table| differ(n, table));
@@ -62,6 +68,7 @@ mod evaluate {
             compare(n, &table, &room, chance.of(&BEFORE), &mut tally);
         }
         tally.expect(&OUTCOMES, cases(1_000));
+        expect_of_lines(&tally, cases(250));
     }
 
     #[test]
@@ -72,10 +79,10 @@ mod evaluate {
             let (n, words) = random::small_table(&mut chance, 6);
             let mut table = table_bytes(&words);
             match chance.below(12) {
-                // A byte anywhere set to anything, the table cut anywhere, or a lone byte after it.
+                // A byte anywhere set to anything or to a code, the table cut anywhere, or a lone byte after it.
                 0 | 1 if !table.is_empty() => {
                     let at = chance.index(table.len());
-                    table[at] = chance.number() as u8;
+                    table[at] = if chance.one_in(2) { chance.below(12) as u8 } else { chance.number() as u8 };
                 }
                 2 => table.truncate(chance.index(table.len() + 1)),
                 3 => table.push(chance.number() as u8),
@@ -146,9 +153,10 @@ mod evaluate {
         for cut in 0..full.len() {
             compare(512, &full[..cut], &[9; 512], 13, &mut tally);
         }
-        // N 1, words 0, 65 and a byte: 6 at 1.
-        let (answer, _) = engine(1, &[0, 0, 65, 0, 7], &[9], 13);
-        assert_eq!(answer, (6 << 32) + 1);
+        // N 1, words 0, 9, 65 and a byte: 6 at 2; words 0, 32,769 and a byte: 6 at 1; words 0, 32,768 and a byte: 4 at 2.
+        assert_eq!(engine(1, &[0, 0, 9, 0, 65, 0, 7], &[9], 13).0, (6 << 32) + 2);
+        assert_eq!(engine(1, &[0, 0, 1, 128, 7], &[9], 13).0, (6 << 32) + 1);
+        assert_eq!(engine(1, &[0, 0, 0, 128, 7], &[9], 13).0, (4 << 32) + 2);
         tally.expect(&["evaluate ok", "evaluate 1", "evaluate 2", "evaluate 3", "evaluate 4"], 1);
     }
 
@@ -158,7 +166,9 @@ mod evaluate {
         let ns = [0, 1, 255, 256, 257, 511, 512, 513, 1 << 16, 1 << 31, 1 << 32, (1 << 32) + 1, (1 << 32) + 512, 1 << 63, u64::MAX];
         for n in ns {
             for room in [0, 1, 255, 256, 511, 512, 513, 600] {
-                for words in [&[][..], &[0, 0], &[1, 0, 0, 0], &[511, 0], &[1023, 0], &[1024, 0], &[0, 65]] {
+                let lines = [32_767, 32_768, 32_769, u16::MAX].map(|line| [0, line, 0]);
+                let heads = [&[][..], &[0, 0, 0], &[1, 2, 0, 0, 1, 0], &[511, 1, 0], &[1023, 1, 0], &[1024, 1, 0], &[0, 1, 65]];
+                for words in heads.into_iter().chain(lines.iter().map(|words| &words[..])) {
                     compare(n, &table_bytes(words), &vec![9; room], 13, &mut tally);
                 }
             }
@@ -173,7 +183,7 @@ mod sheet {
     use against::entries::unpacked;
     use against::guard::Guarded;
     use against::host;
-    use against::sheets::{self, ONLY_IN_BODIES, ROOM_FOR_HEADS};
+    use against::sheets::{self, MANY_LINES, NOT_BY_TWO, ONLY_IN_BODIES, ROOM_FOR_HEADS};
     use against::shrink::without_parts;
     use second::host::simmerknot_sheet as second_sheet;
     use second::random::{self, Chance, SHEET_DAMAGES};
@@ -250,6 +260,7 @@ mod sheet {
         }
         tally.expect(&OUTCOMES, cases(400));
         tally.expect_also(&[(ONLY_IN_BODIES, cases(4_000)), (ROOM_FOR_HEADS, cases(1_200))]);
+        tally.expect_also(&[(MANY_LINES, cases(200)), (NOT_BY_TWO, cases(400))]);
     }
 
     #[test]
@@ -327,9 +338,27 @@ mod sheet {
             at((0..count).map(|i| format!("-n{i}\n")).collect::<String>().as_bytes(), outcome);
             at(&one_head(count), outcome);
         }
+        // As many lines as there can be.
+        at((0..512).map(|i| format!("n{i}\n-n{i}\n")).collect::<String>().as_bytes(), "sheet ok");
         for (words, outcome) in [(8190, "sheet ok"), (8191, "sheet ok"), (8192, "sheet ok"), (8193, "sheet 14"), (8194, "sheet 14")] {
             for seed in 0..20 {
                 at(&random::full_draft(&mut Chance::new(seed), words).sheet(), outcome);
+            }
+        }
+        // The last line with so many words left for it: a head takes three, the first of a group two, a further literal one.
+        for (left, line, outcome) in [
+            (2, "new\n", "sheet 14"),
+            (3, "new\n", "sheet ok"),
+            (4, "new\tnew\n", "sheet 14"),
+            (5, "new\tnew\n", "sheet ok"),
+            (5, "new\tnew -new\n", "sheet 14"),
+            (6, "-new\tnew -new\n", "sheet ok"),
+            (6, "-new\tnew\tnew\n", "sheet 14"),
+            (7, "-new\tnew\tnew\n", "sheet ok"),
+        ] {
+            for seed in 0..20 {
+                let sheet = random::full_draft(&mut Chance::new(seed), 8192 - left).sheet();
+                at(&[sheet, line.as_bytes().to_vec()].concat(), outcome);
             }
         }
         tally.expect(&["sheet ok", "sheet 10", "sheet 11", "sheet 12", "sheet 13", "sheet 14"], 1);

@@ -2,6 +2,7 @@
 
 use against::cases::{Tally, cases};
 use against::entries::{ALREADY_MARKED, CANNOT_BE_MARKED_NOW, Engine, Entries, Second};
+use against::tables::expect_of_lines;
 use against::trace::{Plan, assert_together, passes_until_settled, random_trace};
 use second::marking::MarkRecord;
 use second::model;
@@ -56,6 +57,7 @@ fn tables_change_under_one_record() {
     let plan = Plan { table: |chance| random::small_table(chance, 6), tables: 4, damaged: 15, forged: 0, steps: 40 };
     let tally = replay(2 << 40, cases(50_000), plan);
     tally.expect(&[&ACCEPTED[..], &PLAIN_REFUSALS, &WORDS].concat(), cases(200));
+    expect_of_lines(&tally, cases(1_000));
 }
 
 #[test]
@@ -145,7 +147,7 @@ fn every_mark_alone_is_counted_and_found_below_n_only() {
 fn every_atom_of_512_is_marked_alone() {
     for atom in 0..512u64 {
         // Both literals of the atom are facts.
-        let words = [2 * atom as u16, 0, 2 * atom as u16 + 1, 0];
+        let words = [2 * atom as u16, 1, 0, 2 * atom as u16 + 1, 2, 0];
         let (mut record, _) = Engine.fresh(512);
         let other = (atom + 1) % 512;
         assert_eq!(Engine.pick(&mut record, &words, other), Ok(CANNOT_BE_MARKED_NOW));

@@ -4,10 +4,10 @@ use against::cases::Tally;
 use against::entries::{ALREADY_MARKED, Answer, Entries, MARKED, Second};
 use against::trace::{Plan, Trace, parting, random_trace, shortest};
 use second::marking::MarkRecord;
-use second::random::{self, Chance};
+use second::random::{self, Chance, WordRole, line_places, word_roles};
 use second::refusal::Refusal;
 
-/// The wrong answers of issue 5, each beside the most steps of its shortest trace.
+/// Wrong answers of marking by picks, and of reading the words of a table.
 #[derive(Clone, Copy, Debug, PartialEq, Eq)]
 enum Wrong {
     PickNeverMarks,
@@ -20,9 +20,15 @@ enum Wrong {
     AtomBeforeWords,
     MarksPastNForgotten,
     RefusedFreshKeepsN,
+    LineAbove32768Taken,
+    Line32768Refused,
+    LineCheckedAfterM,
+    LineReadAsM,
+    RecordByHandLeftOut,
 }
 
-const WRONG: [(Wrong, usize); 10] = [
+/// Each beside the most steps of its shortest trace.
+const WRONG: [(Wrong, usize); 15] = [
     (Wrong::PickNeverMarks, 2),
     (Wrong::FirstPickMarksEverything, 2),
     (Wrong::MadeUpCount, 4),
@@ -33,11 +39,88 @@ const WRONG: [(Wrong, usize); 10] = [
     (Wrong::AtomBeforeWords, 1),
     (Wrong::MarksPastNForgotten, 2),
     (Wrong::RefusedFreshKeepsN, 1),
+    (Wrong::LineAbove32768Taken, 2),
+    (Wrong::Line32768Refused, 2),
+    (Wrong::LineCheckedAfterM, 2),
+    (Wrong::LineReadAsM, 2),
+    (Wrong::RecordByHandLeftOut, 3),
 ];
 
 fn mark(record: &mut MarkRecord, atom: u64) {
     if atom < record.n.min(512) {
         record.marks[atom as usize / 64] |= 1 << (atom % 64);
+    }
+}
+
+/// The words with each record's line set by a rule of the line.
+fn with_lines(words: &[u16], line: impl Fn(u16) -> u16) -> Vec<u16> {
+    let mut words = words.to_vec();
+    for at in line_places(&words) {
+        words[at] = line(words[at]);
+    }
+    words
+}
+
+/// The words of a table that has no lines, with a line 0 after each head.
+fn lines_put_in(words: &[u16]) -> Vec<u16> {
+    let mut row = Vec::new();
+    let mut at = 0;
+    let number = |at: usize| words.get(at).copied().unwrap_or(0) as usize;
+    while at < words.len() {
+        let mut end = at + 2;
+        for _ in 0..number(at + 1).min(64) {
+            end += 1 + number(end);
+        }
+        row.extend([words[at], 0]);
+        row.extend(&words[(at + 1).min(words.len())..end.min(words.len())]);
+        at = end;
+    }
+    row
+}
+
+/// The records that have a line; all of a table that is not sound.
+fn without_records_by_hand(n: u64, words: &[u16]) -> Vec<u16> {
+    match second::table::parse(n, words) {
+        Ok(records) => {
+            let kept: Vec<_> = records.into_iter().filter(|record| record.line > 0).collect();
+            second::table::encode(&kept)
+        }
+        Err(_) => words.to_vec(),
+    }
+}
+
+impl Wrong {
+    /// The words as the engine takes them.
+    fn read(&self, n: u64, words: &[u16]) -> Vec<u16> {
+        match self {
+            Wrong::LineAbove32768Taken => with_lines(words, |line| line.min(32_768)),
+            Wrong::Line32768Refused => with_lines(words, |line| if line == 32_768 { 32_769 } else { line }),
+            Wrong::LineReadAsM => lines_put_in(words),
+            Wrong::RecordByHandLeftOut if n <= 512 => without_records_by_hand(n, words),
+            _ => words.to_vec(),
+        }
+    }
+
+    /// What the second implementation answers to the words as the engine takes them, as the engine says it.
+    fn ask(&self, n: u64, words: &[u16], second: impl FnOnce(&[u16]) -> Answer) -> Answer {
+        let read = self.read(n, words);
+        let answer = second(&read);
+        let Err(Refusal { number: number @ 4..=7, place }) = answer else { return answer };
+        match self {
+            // 6 at m, or 4 for want of it.
+            Wrong::LineCheckedAfterM if number == 6 && word_roles(words)[place as usize] == WordRole::Line => {
+                match words.get(place as usize + 1) {
+                    None => Err(Refusal { number: 4, place: place + 1 }),
+                    Some(m) if *m > 64 => Err(Refusal { number: 6, place: place + 1 }),
+                    Some(_) => answer,
+                }
+            }
+            Wrong::LineReadAsM => {
+                let put_in = line_places(&read).into_iter().filter(|&at| (at as u64) < place).count();
+                Err(Refusal { number, place: place - put_in as u64 })
+            }
+            _ => answer,
+        }
     }
 }
 
@@ -59,7 +142,7 @@ impl Entries for Wrong {
     }
 
     fn check(&self, n: u64, words: &[u16]) -> Answer {
-        Second.check(n, words)
+        self.ask(n, words, |words| Second.check(n, words))
     }
 
     fn fresh(&self, n: u64) -> (MarkRecord, Answer) {
@@ -72,7 +155,7 @@ impl Entries for Wrong {
 
     fn pick(&self, record: &mut MarkRecord, words: &[u16], atom: u64) -> Answer {
         let before = *record;
-        let answer = Second.pick(record, words, atom);
+        let answer = self.ask(before.n, words, |words| Second.pick(record, words, atom));
         match self {
             Wrong::PickNeverMarks if answer == Ok(MARKED) => *record = before,
             Wrong::FirstPickMarksEverything if answer == Ok(MARKED) => {
@@ -90,11 +173,11 @@ impl Entries for Wrong {
     }
 
     fn settled(&self, record: &MarkRecord, words: &[u16]) -> Answer {
-        Second.settled(record, words)
+        self.ask(record.n, words, |words| Second.settled(record, words))
     }
 
     fn report(&self, record: &MarkRecord, words: &[u16], values: &mut [u8]) -> Answer {
-        let answer = Second.report(record, words, values);
+        let answer = self.ask(record.n, words, |words| Second.report(record, words, values));
         match self {
             Wrong::ReportBeforeSettled if answer == Err(Refusal { number: 18, place: 0 }) => Ok(0),
             Wrong::ByteWrittenPastN if answer.is_ok() => {
@@ -116,7 +199,7 @@ impl Entries for Wrong {
     }
 
     fn evaluate(&self, n: u64, words: &[u16], values: &mut [u8]) -> Answer {
-        Second.evaluate(n, words, values)
+        self.ask(n, words, |words| Second.evaluate(n, words, values))
     }
 }
 
@@ -148,11 +231,11 @@ fn the_second_implementation_does_not_part_from_itself() {
 
 mod sheets {
     use against::shrink::without_parts;
-    use second::random::{self, Chance, heads_and_others, lines_length};
-    use second::refusal::{Refusal, TEXT_ROOM_TOO_SMALL, refuse};
+    use second::random::{self, Chance, heads_and_others, line_places, lines_length, word_count};
+    use second::refusal::{MOST_WORDS, Refusal, TEXT_ROOM_TOO_SMALL, WORDS_PASS_8192, refuse};
     use second::sheet::{Accepted, read_sheet};
 
-    /// What is wrong about a value sheet.
+    /// What is wrong about a value sheet, or about the words.
     #[derive(Clone, Copy, Debug, PartialEq, Eq)]
     enum Wrong {
         NoLineForANameOnlyInBodies,
@@ -160,15 +243,21 @@ mod sheets {
         RoomForTheHeadsIsEnough,
         LengthOfTheHeadsLines,
         LinesOfTheHeadsFirst,
+        LinesFrom0,
+        LineOfTheRecordBefore,
+        TwoWordsForAHead,
     }
 
-    /// Each beside the most bytes of its shortest sheet.
-    const WRONG: [(Wrong, usize); 5] = [
+    /// Each beside the most bytes of its shortest sheet; where 14 is wrong, a sheet fills 8,192 words at least.
+    const WRONG: [(Wrong, usize); 8] = [
         (Wrong::NoLineForANameOnlyInBodies, 5),
         (Wrong::NoLineWhereTheValueIsU, 5),
         (Wrong::RoomForTheHeadsIsEnough, 5),
         (Wrong::LengthOfTheHeadsLines, 5),
         (Wrong::LinesOfTheHeadsFirst, 7),
+        (Wrong::LinesFrom0, 2),
+        (Wrong::LineOfTheRecordBefore, 5),
+        (Wrong::TwoWordsForAHead, 30_000),
     ];
 
     type Left = (Result<Accepted, Refusal>, Vec<u16>, Vec<u32>, Vec<u8>);
@@ -179,10 +268,33 @@ mod sheets {
         (answer, words, names, text)
     }
 
-    /// Right but for the value lines, their length, or the room that they are said to need.
+    /// The words with other lines in them.
+    fn wrong_lines(wrong: Wrong, accepted: Accepted, mut words: Vec<u16>) -> Vec<u16> {
+        for (i, at) in line_places(&words[..accepted.words_filled as usize]).into_iter().enumerate() {
+            match wrong {
+                Wrong::LinesFrom0 => words[at] -= 1,
+                Wrong::LineOfTheRecordBefore if i > 0 => words[at] -= 1,
+                _ => {}
+            }
+        }
+        words
+    }
+
+    /// Where 14 is given, but two words for a head would not have passed 8,192: as if there were room.
+    fn by_two_for_a_head(sheet: &[u8], answer: &Result<Accepted, Refusal>) -> Option<Accepted> {
+        let words_filled = word_count(sheet, 2);
+        let given = matches!(answer, Err(Refusal { number: WORDS_PASS_8192, .. }));
+        (given && words_filled <= MOST_WORDS).then_some(Accepted { n: 0, words_filled: words_filled as u64, value_sheet_length: 0 })
+    }
+
+    /// Right but for the lines in the words, the words counted, the value lines, their length, or the room that they are said to need.
     fn wrong(wrong: Wrong, sheet: &[u8], room: usize) -> Left {
         let (answer, words, names, text) = right(sheet, 20_000);
+        if let (Wrong::TwoWordsForAHead, Some(accepted)) = (wrong, by_two_for_a_head(sheet, &answer)) {
+            return (Ok(accepted), words, names, vec![7; room]);
+        }
         let Ok(accepted) = answer else { return right(sheet, room) };
+        let words = wrong_lines(wrong, accepted, words);
         let (heads, _) = heads_and_others(sheet);
         let headed = |line: &&[u8]| heads.iter().any(|name| *name.of(sheet) == line[..line.len() - 3]);
         let all: Vec<&[u8]> = text[..accepted.value_sheet_length as usize].split_inclusive(|&byte| byte == b'\n').collect();
@@ -191,7 +303,7 @@ mod sheets {
             Wrong::NoLineForANameOnlyInBodies => of_heads.concat(),
             Wrong::NoLineWhereTheValueIsU => all.into_iter().filter(|line| !line.ends_with(b"\tu\n")).collect::<Vec<_>>().concat(),
             Wrong::LinesOfTheHeadsFirst => [of_heads, of_others].concat().concat(),
-            Wrong::RoomForTheHeadsIsEnough | Wrong::LengthOfTheHeadsLines => all.concat(),
+            _ => all.concat(),
         };
         let needed = if wrong == Wrong::RoomForTheHeadsIsEnough { lines_length(&heads) } else { lines.len() };
         if needed > room {
@@ -209,13 +321,17 @@ mod sheets {
         for (engine, most) in WRONG {
             let parts = |sheet: &[u8], room: usize| wrong(engine, sheet, room) != right(sheet, room);
             let mut chance = Chance::new(1);
-            let found = (0..100).find_map(|_| {
+            let found = (0..400).find_map(|_| {
                 let sheet = random::any_sheet(&mut chance);
                 let room = random::text_room(&mut chance, &sheet).len();
                 parts(&sheet, room).then_some((sheet, room))
             });
             let (sheet, room) = found.unwrap_or_else(|| panic!("{engine:?} was not noticed"));
-            let short = without_parts(&sheet, |sheet| parts(sheet, room));
+            let lines: Vec<&[u8]> = sheet.split_inclusive(|&byte| byte == b'\n').collect();
+            let mut short = without_parts(&lines, |lines| parts(&lines.concat(), room)).concat();
+            if short.len() < 5_000 {
+                short = without_parts(&short, |sheet| parts(sheet, room));
+            }
             println!("{engine:?}, room {room}: \"{}\"", short.escape_ascii());
             assert!(short.len() <= most, "{engine:?}, room {room}: \"{}\"", short.escape_ascii());
         }

@@ -53,7 +53,7 @@ impl<'a> Lookup<'a> for Hash<'a> {
 fn read<'a, L: Lookup<'a>>(sheet: &'a [u8], words: &mut [u16], names: &mut [u32]) -> Result<(usize, usize), Refusal> {
     let mut lookup = L::default();
     let mut heads = [false; 1024];
-    let (mut n, mut filled, mut rule, mut group) = (0, 0, 0, 0);
+    let (mut n, mut filled, mut line, mut rule, mut group) = (0, 0, 0, 0, 0);
     let mut reader = Reader::new(sheet);
     loop {
         let literal = match reader.next_reading() {
@@ -78,8 +78,8 @@ fn read<'a, L: Lookup<'a>>(sheet: &'a [u8], words: &mut [u16], names: &mut [u32]
             return refuse(SECOND_RULE_FOR_HEAD, place);
         }
         let (count, more) = match literal.role {
-            Role::Head => (0, 2),
-            Role::First => (words[rule + 1], 2),
+            Role::Head => (0, 3),
+            Role::First => (words[rule + 2], 2),
             Role::Further => (words[group], 1),
         };
         if count == 64 {
@@ -91,11 +91,13 @@ fn read<'a, L: Lookup<'a>>(sheet: &'a [u8], words: &mut [u16], names: &mut [u32]
         match literal.role {
             Role::Head => {
                 heads[code] = true;
+                line += 1;
                 rule = filled;
-                words[filled] = code as u16;
+                words[rule] = code as u16;
+                words[rule + 1] = line;
             }
             Role::First => {
-                words[rule + 1] += 1;
+                words[rule + 2] += 1;
                 group = filled;
                 words[group] = 1;
                 words[group + 1] = code as u16;
@@ -138,7 +140,7 @@ fn full_sheet(names: usize, length: usize) -> (Vec<u8>, usize) {
     let (mut seps, mut words) = (Vec::new(), 0);
     loop {
         let at = seps.len() % 4097;
-        let (sep, more) = if at == 0 { (b'\n', 2) } else if at % 64 == 1 { (b'\t', 2) } else { (b' ', 1) };
+        let (sep, more) = if at == 0 { (b'\n', 3) } else if at % 64 == 1 { (b'\t', 2) } else { (b' ', 1) };
         if words + more > MOST_WORDS || (seps.len() + 1) * (length + 1) > MOST_SHEET_BYTES {
             break;
         }

@@ -49,19 +49,25 @@ pub fn check(n: u64, words: &[u16], room: usize) -> Result<(), Refusal> {
             return refuse(SECOND_RULE_FOR_HEAD, at);
         }
         add(&mut heads, head);
-        let Some(&m) = words.get(at + 1) else {
+        let Some(&line) = words.get(at + 1) else {
+            return refuse(RECORD_CUT_SHORT, words.len());
+        };
+        if line as usize > MOST_LINE {
+            return refuse(COUNT_OR_LINE_OUT_OF_RANGE, at + 1);
+        }
+        let Some(&m) = words.get(at + 2) else {
             return refuse(RECORD_CUT_SHORT, words.len());
         };
         if m as usize > MOST_GROUPS {
-            return refuse(COUNT_OUT_OF_RANGE, at + 1);
+            return refuse(COUNT_OR_LINE_OUT_OF_RANGE, at + 2);
         }
-        at += 2;
+        at += 3;
         for _ in 0..m {
             let Some(&k) = words.get(at) else {
                 return refuse(RECORD_CUT_SHORT, words.len());
             };
             if k == 0 || k as usize > MOST_LITERALS {
-                return refuse(COUNT_OUT_OF_RANGE, at);
+                return refuse(COUNT_OR_LINE_OUT_OF_RANGE, at);
             }
             at += 1;
             let end = words.len().min(at + k as usize);
@@ -113,9 +119,9 @@ fn reread(words: &[u16], shut_out: &Bits, set: &mut Bits) {
     loop {
         let mut grown = false;
         let mut at = 0;
-        while at + 1 < words.len() {
-            let (head, m) = (words[at], words[at + 1]);
-            at += 2;
+        while at + 2 < words.len() {
+            let (head, m) = (words[at], words[at + 2]);
+            at += 3;
             let mut groups = m;
             if !has(&done, head) {
                 let mut fires = m == 0;
@@ -237,7 +243,7 @@ impl Index {
 /// Calls with each head and group, or with a head and nothing for a fact.
 fn each_group<'a>(words: &'a [u16], mut call: impl FnMut(u16, Option<&'a [u16]>)) {
     let mut rest = words;
-    while let [head, m, after @ ..] = rest {
+    while let [head, _line, m, after @ ..] = rest {
         rest = after;
         if *m == 0 {
             call(*head, None);

@@ -15,7 +15,7 @@ use std::time::{Duration, Instant};
 
 use second::random::{Chance, small_table};
 use second::tables::{EXAMPLES, MEASURED};
-use second::table::{Rule, parse};
+use second::table::{Rule, rules_of};
 use second::truth::{F, I, T, U, letter};
 
 /// Seconds that clingo may take for one table.
@@ -147,7 +147,7 @@ fn stop(why: &str) -> ! {
 fn evaluated(n: u64, words: &[u16]) -> (Vec<Rule>, Vec<u8>) {
     let mut values = vec![0; n as usize];
     second::model::evaluate(n, words, &mut values).expect("an accepted table");
-    (parse(n, words).expect("an accepted table"), values)
+    (rules_of(n, words).expect("an accepted table"), values)
 }
 
 fn median(mut times: Vec<Duration>) -> f64 {

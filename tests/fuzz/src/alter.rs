@@ -1,6 +1,6 @@
-//! Inputs altered at random, with no regard to what they mean.
+//! Inputs altered at random, with no regard to what they mean but for the lines of tables.
 
-use second::random::{Chance, sheet_byte};
+use second::random::{Chance, any_line, line_places, sheet_byte};
 
 /// A part of the row: where it begins and ends, mostly short.
 fn part(chance: &mut Chance, length: usize) -> (usize, usize) {
@@ -66,7 +66,23 @@ fn times(chance: &mut Chance) -> u64 {
     if chance.one_in(3) { 0 } else { chance.between(1, 5) }
 }
 
+/// The whole words of a table's bytes.
+pub fn words_of(row: &[u8]) -> Vec<u16> {
+    row.chunks_exact(2).map(|pair| u16::from_le_bytes([pair[0], pair[1]])).collect()
+}
+
+/// One of the line words, as far as the counts tell them, at an edge of its range or anywhere.
+fn line_altered(chance: &mut Chance, mut row: Vec<u8>) -> Vec<u8> {
+    let places = line_places(&words_of(&row));
+    if !places.is_empty() {
+        let at = 2 * chance.of(&places);
+        row[at..at + 2].copy_from_slice(&any_line(chance).to_le_bytes());
+    }
+    row
+}
+
 pub fn table(chance: &mut Chance, row: Vec<u8>, other: &[u8]) -> Vec<u8> {
+    let row = if chance.one_in(6) { line_altered(chance, row) } else { row };
     let times = times(chance);
     altered(chance, row, other, times, |chance| if chance.one_in(2) { chance.below(5) as u8 } else { chance.number() as u8 })
 }

@@ -17,6 +17,13 @@ fn packed_kind(outcome: &Outcome) -> String {
     }
 }
 
+/// The kind of an evaluation's outcome, with more said of 6 at a line.
+fn table_kind(table: &[u8], outcome: &Outcome) -> String {
+    let kind = packed_kind(outcome);
+    let place = (outcome.answer & 0xffff_ffff) as usize;
+    if kind == "6" && random::line_places(&alter::words_of(table)).contains(&place) { "6, at a line".to_string() } else { kind }
+}
+
 /// The kind of a sheet's outcome, with more said where some names stand only in bodies: of an accepted sheet, and of 15 in a text room
 /// of so many bytes that the lines of the heads alone would fit.
 fn sheet_kind(kind: String, sheet: &[u8], room: usize) -> String {
@@ -61,8 +68,8 @@ pub fn evaluation() -> Target {
             let answer = second::host::simmerknot_evaluate(case.n, &case.bytes, &mut values);
             Outcome { answer, left: vec![values] }
         },
-        kind: |_, outcome| packed_kind(outcome),
-        kinds: &["ok", "1", "2", "3", "4", "5", "6", "7"],
+        kind: |case, outcome| table_kind(&case.bytes, outcome),
+        kinds: &["ok", "1", "2", "3", "4", "5", "6", "6, at a line", "7"],
     }
 }
 

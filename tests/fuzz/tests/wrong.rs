@@ -2,8 +2,9 @@
 
 use std::process::Command;
 
+use fuzz::alter::words_of;
 use fuzz::{Case, Outcome, Target, run, targets};
-use second::random::{heads_and_others, lines_length};
+use second::random::{heads_and_others, line_places, lines_length, table_bytes};
 
 /// The target with a fault laid over its engine's outcomes parts from the second implementation within so many cases.
 fn noticed(mut target: Target, within: u64, fault: fn(&Case, &mut Outcome)) {
@@ -45,6 +46,55 @@ fn evaluation_that_writes_on_a_refusal() {
     noticed(targets::evaluation(), 5_000, |_, outcome| {
         if number(outcome) == 6 && !outcome.left[0].is_empty() {
             outcome.left[0][0] ^= 1;
+        }
+    });
+}
+
+/// Whether the place of a refusal is a line of the table.
+fn at_a_line(case: &Case, outcome: &Outcome) -> bool {
+    line_places(&words_of(&case.bytes)).contains(&((outcome.answer & 0xffff_ffff) as usize))
+}
+
+#[test]
+fn evaluation_that_takes_a_line_above_32768() {
+    noticed(targets::evaluation(), 500, |case, outcome| {
+        if number(outcome) == 6 && at_a_line(case, outcome) {
+            outcome.answer = 0;
+        }
+    });
+}
+
+#[test]
+fn evaluation_that_looks_at_m_before_the_line() {
+    noticed(targets::evaluation(), 5_000, |case, outcome| {
+        let m = words_of(&case.bytes).get((outcome.answer & 0xffff_ffff) as usize + 1).copied();
+        if number(outcome) == 6 && at_a_line(case, outcome) && m.is_some_and(|m| m > 64) {
+            outcome.answer += 1;
+        }
+    });
+}
+
+#[test]
+fn evaluation_that_depends_on_a_line() {
+    noticed(targets::evaluation(), 500, |case, outcome| {
+        let words = words_of(&case.bytes);
+        if number(outcome) == 0 && line_places(&words).into_iter().any(|at| words[at] == 32_768) {
+            outcome.left[0][0] = 1;
+        }
+    });
+}
+
+#[test]
+fn sheet_with_lines_counted_from_0() {
+    noticed(targets::sheet(), 50, |_, outcome| {
+        if number(outcome) == 0 {
+            let mut words = words_of(&outcome.left[0]);
+            let filled = words.iter().rposition(|&word| word != 0).map_or(0, |last| last + 1);
+            for at in line_places(&words[..filled]) {
+                words[at] -= 1;
+            }
+            let bytes = table_bytes(&words);
+            outcome.left[0][..bytes.len()].copy_from_slice(&bytes);
         }
     });
 }

@@ -1,6 +1,6 @@
 //! Simmerknot once more, written from documents 01 and 02 alone, to compare the engine with.
 //!
-//! One file for each section of document 01, from the bottom up, W1 of document 02 taken in:
+//! One file for each section of document 01, from the bottom up, W1 and W2 of document 02 taken in:
 //! `refusal` (the numbers), `truth` (values and truth tables), `table` (the word table), `model` (Held, Clean and
 //! evaluation), `marking` (the mark record and picks), `reader` and `sheet` (rule sheet and value sheet), `program`
 //! and `host`.

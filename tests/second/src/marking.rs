@@ -44,7 +44,7 @@ impl MarkRecord {
     fn rules(&self, words: &[u16]) -> Result<Vec<Rule>, Refusal> {
         self.check()?;
         table::check_length(words)?;
-        table::parse(self.n, words)
+        table::rules_of(self.n, words)
     }
 }
 
@@ -90,7 +90,7 @@ pub fn report(record: &MarkRecord, words: &[u16], values: &mut [u8]) -> Result<(
     record.check()?;
     table::check_length(words)?;
     model::check_room(record.n, values.len())?;
-    let rules = table::parse(record.n, words)?;
+    let rules = table::rules_of(record.n, words)?;
     let marked = record.marked();
     if !model::markable(&rules, &marked).is_empty() {
         return refuse(NOT_SETTLED, 0);

@@ -87,7 +87,7 @@ pub fn evaluation_rules(n: u64, words: &[u16], room: usize) -> Result<Vec<Rule>,
     table::check_n(n)?;
     table::check_length(words)?;
     check_room(n, room)?;
-    table::parse(n, words)
+    table::rules_of(n, words)
 }
 
 pub fn check_room(n: u64, room: usize) -> Result<(), Refusal> {

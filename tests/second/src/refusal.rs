@@ -12,7 +12,7 @@ pub const TABLE_ABOVE_8192: u32 = 2;
 pub const VALUE_ROOM_BELOW_N: u32 = 3;
 pub const RECORD_CUT_SHORT: u32 = 4;
 pub const LITERAL_NOT_BELOW_2N: u32 = 5;
-pub const COUNT_OUT_OF_RANGE: u32 = 6;
+pub const COUNT_OR_LINE_OUT_OF_RANGE: u32 = 6;
 pub const SECOND_RULE_FOR_HEAD: u32 = 7;
 pub const SHEET_ABOVE_65536: u32 = 8;
 pub const BUFFER_TOO_SMALL: u32 = 9;
@@ -30,6 +30,7 @@ pub const TRUTH_CODE_ABOVE_3: u32 = 20;
 
 pub const MOST_ATOMS: u64 = 512;
 pub const MOST_WORDS: usize = 8192;
+pub const MOST_LINE: usize = 32_768;
 pub const MOST_GROUPS: usize = 64;
 pub const MOST_LITERALS: usize = 64;
 pub const MOST_SHEET_BYTES: usize = 65_536;

@@ -5,7 +5,7 @@ use std::collections::{BTreeMap, BTreeSet};
 use crate::model;
 use crate::reader::{Reader, Reading, Role, SheetLiteral};
 use crate::refusal::*;
-use crate::table::{self, Literal, Rule};
+use crate::table::{self, Literal, Record, Rule};
 use crate::truth;
 
 /// What an accepted sheet answers.
@@ -33,11 +33,17 @@ impl Name {
     }
 }
 
-/// The rules of a sheet, and the names of its atoms in atom order.
+/// The records of a sheet, each with the line of its head, and the names of its atoms in atom order.
 #[derive(Clone, Debug, PartialEq, Eq, Default)]
 pub struct Contents {
-    pub rules: Vec<Rule>,
+    pub records: Vec<Record>,
     pub names: Vec<Name>,
+}
+
+impl Contents {
+    pub fn rules(&self) -> Vec<Rule> {
+        self.records.iter().map(|record| record.rule.clone()).collect()
+    }
 }
 
 /// The sheet entry: fills the buffers and the text room. 8, 9, literals, 19, 15.
@@ -62,7 +68,7 @@ pub fn read_sheet(
     if lines.len() > text.len() {
         return refuse(TEXT_ROOM_TOO_SMALL, lines.len());
     }
-    let filled = table::encode(&contents.rules);
+    let filled = table::encode(&contents.records);
     words[..filled.len()].copy_from_slice(&filled);
     for (entry, name) in names.iter_mut().zip(&contents.names) {
         *entry = name.entry();
@@ -75,7 +81,7 @@ pub fn read_sheet(
     })
 }
 
-/// The rules and names of a sheet, or the first literal with a fault.
+/// The records and names of a sheet, or the first literal with a fault.
 pub fn contents(sheet: &[u8]) -> Result<Contents, Refusal> {
     let mut gathered = Gathered::default();
     let mut reader = Reader::new(sheet);
@@ -107,10 +113,13 @@ impl<'a> Gathered<'a> {
                 if !self.heads.insert(literal) {
                     return refuse(SECOND_RULE_FOR_HEAD, place);
                 }
-                self.count_words(2, place)?;
-                self.contents.rules.push(Rule {
-                    head: literal,
-                    groups: Vec::new(),
+                self.count_words(3, place)?;
+                self.contents.records.push(Record {
+                    line: line_of(sheet, place),
+                    rule: Rule {
+                        head: literal,
+                        groups: Vec::new(),
+                    },
                 });
             }
             Role::First => {
@@ -156,7 +165,7 @@ impl<'a> Gathered<'a> {
 
     /// The groups of the last rule; a group is read only after a head.
     fn groups(&mut self) -> &mut Vec<Vec<Literal>> {
-        &mut self.contents.rules.last_mut().expect("a head stands before each group").groups
+        &mut self.contents.records.last_mut().expect("a head stands before each group").rule.groups
     }
 
     /// The last group; a further literal is read only after a first one.
@@ -165,11 +174,17 @@ impl<'a> Gathered<'a> {
     }
 }
 
+/// The line in which a byte of a sheet stands, from 1.
+pub fn line_of(sheet: &[u8], place: usize) -> usize {
+    1 + sheet[..place].iter().filter(|&&byte| byte == b'\n').count()
+}
+
 /// One line for each atom, in atom order: its name, tab, the letter of its value, byte 10.
 fn value_sheet(sheet: &[u8], contents: &Contents) -> Result<Vec<u8>, Refusal> {
     let n = contents.names.len() as u64;
-    let marked = model::settle(n, &contents.rules)?;
-    let values = model::values_of(&contents.rules, &marked);
+    let rules = contents.rules();
+    let marked = model::settle(n, &rules)?;
+    let values = model::values_of(&rules, &marked);
     let mut lines = Vec::new();
     for (name, value) in contents.names.iter().zip(values) {
         lines.extend_from_slice(name.of(sheet));

@@ -15,7 +15,7 @@ pub fn negation(literal: Literal) -> Literal {
     if literal.is_multiple_of(2) { literal + 1 } else { literal - 1 }
 }
 
-/// One record: the body is the OR of its groups, a group the AND of its literals; no group at all is a fact.
+/// The body is the OR of its groups, a group the AND of its literals; no group at all is a fact.
 #[derive(Clone, Debug, PartialEq, Eq)]
 pub struct Rule {
     pub head: Literal,
@@ -27,6 +27,18 @@ impl Rule {
     pub fn fires_in(&self, set: &[bool]) -> bool {
         self.groups.is_empty() || self.groups.iter().any(|group| group.iter().all(|&literal| set[literal]))
     }
+}
+
+/// One record: a rule, and the line of the sheet it came from, or 0. No answer depends on the line.
+#[derive(Clone, Debug, PartialEq, Eq)]
+pub struct Record {
+    pub line: usize,
+    pub rule: Rule,
+}
+
+/// Rules with the lines 1, 2, 3 .., as a sheet gives them.
+pub fn numbered(rules: &[Rule]) -> Vec<Record> {
+    rules.iter().enumerate().map(|(i, rule)| Record { line: i + 1, rule: rule.clone() }).collect()
 }
 
 /// The table check: 1, 2, then the words.
@@ -44,10 +56,15 @@ pub fn check_length(words: &[u16]) -> Result<(), Refusal> {
     if words.len() > MOST_WORDS { refuse(TABLE_ABOVE_8192, 0) } else { Ok(()) }
 }
 
-/// The words as rules, or the first faulty word; N and the length have been checked before.
-pub fn parse(n: u64, words: &[u16]) -> Result<Vec<Rule>, Refusal> {
+/// The rules of the words alone, for all that follows from them.
+pub fn rules_of(n: u64, words: &[u16]) -> Result<Vec<Rule>, Refusal> {
+    Ok(parse(n, words)?.into_iter().map(|record| record.rule).collect())
+}
+
+/// The words as records, or the first faulty word; N and the length have been checked before.
+pub fn parse(n: u64, words: &[u16]) -> Result<Vec<Record>, Refusal> {
     let mut row = Row { n, words, at: 0 };
-    let mut rules = Vec::new();
+    let mut records = Vec::new();
     let mut heads = BTreeSet::new();
     while row.at < words.len() {
         let place = row.at;
@@ -55,17 +72,18 @@ pub fn parse(n: u64, words: &[u16]) -> Result<Vec<Rule>, Refusal> {
         if !heads.insert(head) {
             return refuse(SECOND_RULE_FOR_HEAD, place);
         }
+        let line = row.number(0, MOST_LINE)?;
         let mut groups = Vec::new();
-        for _ in 0..row.count(0, MOST_GROUPS)? {
+        for _ in 0..row.number(0, MOST_GROUPS)? {
             let mut group = Vec::new();
-            for _ in 0..row.count(1, MOST_LITERALS)? {
+            for _ in 0..row.number(1, MOST_LITERALS)? {
                 group.push(row.literal()?);
             }
             groups.push(group);
         }
-        rules.push(Rule { head, groups });
+        records.push(Record { line, rule: Rule { head, groups } });
     }
-    Ok(rules)
+    Ok(records)
 }
 
 /// The words and how far they have been read.
@@ -92,18 +110,19 @@ impl Row<'_> {
         if literal as u64 >= 2 * self.n { refuse(LITERAL_NOT_BELOW_2N, place) } else { Ok(literal) }
     }
 
-    fn count(&mut self, least: usize, most: usize) -> Result<usize, Refusal> {
+    fn number(&mut self, least: usize, most: usize) -> Result<usize, Refusal> {
         let place = self.at;
-        let count = self.word()?;
-        if count < least || count > most { refuse(COUNT_OUT_OF_RANGE, place) } else { Ok(count) }
+        let number = self.word()?;
+        if number < least || number > most { refuse(COUNT_OR_LINE_OUT_OF_RANGE, place) } else { Ok(number) }
     }
 }
 
-/// The words of rules.
-pub fn encode(rules: &[Rule]) -> Vec<u16> {
+/// The words of records.
+pub fn encode(records: &[Record]) -> Vec<u16> {
     let mut words = Vec::new();
-    for rule in rules {
+    for Record { line, rule } in records {
         words.push(rule.head as u16);
+        words.push(*line as u16);
         words.push(rule.groups.len() as u16);
         for group in &rule.groups {
             words.push(group.len() as u16);

@@ -2,7 +2,7 @@
 
 use crate::random::Chance;
 use crate::refusal::{MOST_GROUPS, MOST_LITERALS, MOST_WORDS};
-use crate::table::{Literal, Rule, encode, negation};
+use crate::table::{Literal, Rule, encode, negation, numbered};
 
 /// Rules in document 01's notation (":" parts head and body, "/" groups), with atoms numbered by first appearance.
 #[derive(Clone, Debug)]
@@ -16,8 +16,9 @@ impl Written {
         self.names.len() as u64
     }
 
+    /// The words of the rules, with the lines that they have in the sheet.
     pub fn words(&self) -> Vec<u16> {
-        encode(&self.rules)
+        encode(&numbered(&self.rules))
     }
 
     pub fn atom(&self, name: &str) -> usize {
@@ -180,7 +181,7 @@ pub const WHOLE_RUN_INPUT: &str =
     "arrived\tlogged\tmailed\nlogged\n-arrived\tgap\ngap\nscored\tarrived audited\naudited\n";
 pub const WHOLE_RUN_OUTPUT: &str = "arrived\ti\nlogged\tt\nmailed\tu\ngap\tt\nscored\ti\naudited\tt\n";
 
-/// A table to measure on: N is 512 and at most 8,192 words.
+/// A table to measure on: N is 512, at most 8,192 words, and the lines are 1, 2, 3 .. by record.
 pub struct Measured {
     pub name: &'static str,
     pub table: fn() -> (u64, Vec<u16>),
@@ -218,8 +219,13 @@ fn rule(head: Literal, groups: Vec<Vec<Literal>>) -> Rule {
     Rule { head, groups }
 }
 
+/// How many words rules take.
+fn words(rules: &[Rule]) -> usize {
+    encode(&numbered(rules)).len()
+}
+
 fn finished(rules: Vec<Rule>) -> (u64, Vec<u16>) {
-    (N as u64, encode(&rules))
+    (N as u64, encode(&numbered(&rules)))
 }
 
 /// `count` blocks marked one after another: x0, -x0; b_i: x_i; x_{i+1}; -x_{i+1}: -b_i. Atom x_i is first + 2i, b_i the next.
@@ -249,7 +255,7 @@ fn chain_back_to_front(first: usize, length: usize) -> Vec<Rule> {
 
 /// p_i: p_{i-1}, p_{i-2} .. (round again where there are too few), back to front, the fact last, in exactly `room` words.
 fn wide_chain_back_to_front(first: usize, length: usize, room: usize) -> Vec<Rule> {
-    let literals = room - 2 - 3 * (length - 1);
+    let literals = room - 3 - 4 * (length - 1);
     let (each, more) = (literals / (length - 1), literals % (length - 1));
     let mut rules: Vec<Rule> = (1..length)
         .rev()
@@ -265,17 +271,17 @@ fn wide_chain_back_to_front(first: usize, length: usize, room: usize) -> Vec<Rul
 
 /// Fills the table up to 8,192 words by records that never fire: one group each, the literal `never` last in it.
 fn pad(rules: &mut Vec<Rule>, heads: &[Literal], filler: &[Literal], never: Literal) {
-    let mut room = MOST_WORDS - encode(rules).len();
+    let mut room = MOST_WORDS - words(rules);
     let mut heads = heads.iter();
     let mut filler = filler.iter().cycle();
     while room > 0 {
-        // A record takes 4 to 67 words; the rest must not fall below 4.
+        // A record takes 5 to 68 words; the rest must not fall below 5.
         let size = match room {
-            0..=67 => room,
-            68..=70 => room - 4,
-            _ => 67,
+            0..=68 => room,
+            69..=72 => room - 5,
+            _ => 68,
         };
-        let mut group: Vec<Literal> = filler.by_ref().take(size - 4).copied().collect();
+        let mut group: Vec<Literal> = filler.by_ref().take(size - 5).copied().collect();
         group.push(never);
         let head = *heads.next().expect("heads enough to fill the table");
         rules.push(rule(head, vec![group]));
@@ -300,27 +306,27 @@ pub fn max_random() -> (u64, Vec<u16>) {
     chance.shuffle(&mut heads);
     let (facts, others) = heads.split_at(400);
     let mut rules: Vec<Rule> = facts.iter().map(|&head| fact(head)).collect();
-    let mut room = MOST_WORDS - 2 * facts.len();
+    let mut room = MOST_WORDS - 3 * facts.len();
     for (i, &head) in others.iter().enumerate() {
         let left = others.len() - i;
         // Each of the rules left gets its share, give or take, and the last one all that is left.
         let share = room / left;
         let size = if left == 1 { room } else { chance.between(share as u64 - 4, share as u64 + 4) as usize };
-        rules.push(rule(head, random_groups(&mut chance, size - 2)));
+        rules.push(rule(head, random_groups(&mut chance, size - 3)));
         room -= size;
     }
     chance.shuffle(&mut rules);
     finished(rules)
 }
 
-/// Groups in exactly `room` words, at least 2: mostly of 3 to 8 literals, so that facts alone do not fire them all.
+/// Groups in exactly `room` words, at least 2: mostly of 3 to 7 literals, so that facts alone do not fire them all.
 fn random_groups(chance: &mut Chance, room: usize) -> Vec<Vec<Literal>> {
     let mut groups = Vec::new();
     let mut room = room;
     while room > 0 {
         let size = match room {
-            0..=9 => room,
-            _ => chance.between(4, 9).min(room as u64 - 2) as usize,
+            0..=8 => room,
+            _ => chance.between(4, 8).min(room as u64 - 2) as usize,
         };
         groups.push((1..size).map(|_| chance.below(2 * N as u64) as Literal).collect());
         room -= size;
@@ -395,7 +401,7 @@ pub fn worst_src() -> (u64, Vec<u16>) {
 /// 384 marks one after another beside 128 atoms with wide bodies that stay t, 8,192 words.
 pub fn worst_fresh() -> (u64, Vec<u16>) {
     let mut rules = marks_one_after_another(0, 192);
-    let room = MOST_WORDS - encode(&rules).len();
+    let room = MOST_WORDS - words(&rules);
     rules.extend(wide_chain_back_to_front(384, 128, room));
     finished(rules)
 }

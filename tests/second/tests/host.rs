@@ -12,10 +12,12 @@ fn packed(number: u64, place: u64) -> u64 {
 #[test]
 fn words_go_low_byte_first() {
     let mut values = [7; 301];
-    // Head 2 × 300 + 1, a fact.
-    assert_eq!(simmerknot_evaluate(301, &[0x59, 0x02, 0, 0], &mut values), 0);
+    // Head 2 × 300 + 1, line 32,768, a fact.
+    assert_eq!(simmerknot_evaluate(301, &[0x59, 0x02, 0x00, 0x80, 0, 0], &mut values), 0);
     assert_eq!(values[300], 0);
     assert!(values[..300].iter().all(|&value| value == 1));
+    // Line 32,769: 6 at its word. High byte first it would be 384.
+    assert_eq!(simmerknot_evaluate(301, &[0x59, 0x02, 0x01, 0x80, 0, 0], &mut values), packed(6, 1));
 }
 
 #[test]
@@ -23,9 +25,13 @@ fn a_lone_last_byte_is_a_record_cut_short() {
     let mut values = [7; 1];
     for lone in [0, 1, 255] {
         assert_eq!(simmerknot_evaluate(1, &[lone], &mut values), packed(4, 0));
-        assert_eq!(simmerknot_evaluate(1, &[0, 0, 0, 0, lone], &mut values), packed(4, 2));
+        // After a whole record, after its head, after its line.
+        assert_eq!(simmerknot_evaluate(1, &[0, 0, 9, 0, 0, 0, lone], &mut values), packed(4, 3));
+        assert_eq!(simmerknot_evaluate(1, &[0, 0, lone], &mut values), packed(4, 1));
+        assert_eq!(simmerknot_evaluate(1, &[0, 0, 9, 0, lone], &mut values), packed(4, 2));
         // A whole word that is faulty beats it.
-        assert_eq!(simmerknot_evaluate(1, &[0, 0, 65, 0, lone], &mut values), packed(6, 1));
+        assert_eq!(simmerknot_evaluate(1, &[0, 0, 9, 0, 65, 0, lone], &mut values), packed(6, 2));
+        assert_eq!(simmerknot_evaluate(1, &[0, 0, 0, 255, lone], &mut values), packed(6, 1));
         assert_eq!(simmerknot_evaluate(1, &[2, 0, lone], &mut values), packed(5, 0));
         assert_eq!(simmerknot_evaluate(513, &[lone], &mut values), packed(1, 0));
         assert_eq!(simmerknot_evaluate(2, &[lone], &mut values), packed(3, 0));
@@ -58,7 +64,8 @@ fn surplus_bytes_of_the_buffers_are_untouched() {
         assert_eq!(words[16_390], 7);
         assert_eq!(names[2048..2052], [0; 4]);
         assert_eq!(names[2052..], [7; 3]);
-        assert!(words[2..16_390].iter().all(|&byte| byte == 0));
+        assert_eq!(words[..4], [0, 0, (answer == 4) as u8, 0]);
+        assert!(words[4..16_390].iter().all(|&byte| byte == 0));
         assert_eq!(names[0], (answer == 4) as u8);
         assert_eq!(text, if answer == 4 { *b"a\tt\n\x07\x07" } else { [7; 6] });
     }
@@ -87,7 +94,7 @@ fn the_answered_length_counts_every_atom() {
     assert_eq!(simmerknot_sheet(sheet, &mut words, &mut names, &mut text), 12);
     assert_eq!(text, b"p\tu\nq\tu\nr\tu\n\x07\x07");
     assert_eq!(entry_bytes(&[1, 32 * 2 + 1, 32 * 5 + 1, 0]), names[..16]);
-    assert_eq!(table_bytes(&[0, 1, 2, 2, 5, 0]), words[..12]);
+    assert_eq!(table_bytes(&[0, 1, 1, 2, 2, 5, 0]), words[..14]);
     // Enough for the line of p alone, and one byte too few for all.
     for room in [4, 11] {
         let mut text = vec![7; room];

@@ -2,7 +2,7 @@
 
 use second::judge::*;
 use second::random::{self, Chance};
-use second::table::parse;
+use second::table::rules_of;
 use second::tables::written;
 use second::truth::{F, I, T, U};
 
@@ -81,7 +81,7 @@ fn the_decision_equals_the_search_through_all_orders() {
     for seed in 0..1500 {
         let mut chance = Chance::new(seed);
         let (n, words) = random::small_table(&mut chance, 2);
-        let rules = parse(n, &words).unwrap();
+        let rules = rules_of(n, &words).unwrap();
         for set in 0..1u32 << (2 * n) {
             let found = is_well_supported_by_orders(set, &rules, &orders[set.count_ones() as usize]);
             assert_eq!(is_well_supported(n as usize, set, &rules), found, "seed {seed}, set {set:b}, {rules:?}");
@@ -102,7 +102,7 @@ fn the_decision_equals_the_search_through_all_lines() {
     for seed in 0..400 {
         let mut chance = Chance::new(10_000 + seed);
         let (n, words) = random::small_table(&mut chance, 3);
-        let rules = parse(n, &words).unwrap();
+        let rules = rules_of(n, &words).unwrap();
         for set in 0..1u32 << (2 * n) {
             let found = is_well_supported_by_lines(set, &rules);
             assert_eq!(is_well_supported(n as usize, set, &rules), found, "seed {seed}, set {set:b}, {rules:?}");
@@ -121,7 +121,7 @@ fn the_whole_herbrand_base_is_a_model() {
     for seed in 0..200 {
         let mut chance = Chance::new(seed);
         let (n, words) = random::small_table(&mut chance, 4);
-        let rules = parse(n, &words).unwrap();
+        let rules = rules_of(n, &words).unwrap();
         assert!(is_model((1u32 << (2 * n)) - 1, &rules));
     }
     assert!(!is_model(0, &written(&["a"]).rules));

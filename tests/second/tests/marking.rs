@@ -5,7 +5,7 @@ use second::marking::{MarkRecord, Picked, fresh, mark_count, pick, report, settl
 use second::model::evaluate;
 use second::random::{self, Chance};
 use second::refusal::Refusal;
-use second::table::{check, parse};
+use second::table::{check, rules_of};
 use second::tables::written;
 use second::truth::{F, I, T, U};
 
@@ -34,7 +34,7 @@ fn a_fresh_record_has_no_marks_and_a_refused_one_n_0() {
 
 #[test]
 fn atom_a_is_bit_a_mod_64_of_word_a_div_64() {
-    let both: Vec<u16> = (0..1024).flat_map(|head| [head, 0]).collect();
+    let both: Vec<u16> = (0..1024).flat_map(|head| [head, head + 1, 0]).collect();
     for atom in [0, 1, 63, 64, 127, 128, 300, 511] {
         let (mut record, _) = fresh(512);
         assert_eq!(pick(&mut record, &both, atom), Picked::Marked);
@@ -63,9 +63,10 @@ fn a_pick_answers_marked_already_or_cannot() {
 fn a_marked_atom_is_already_marked_whatever_the_table_says() {
     let mut record = with_marks(2, &[0]);
     assert_eq!(pick(&mut record, &[], 0), Picked::AlreadyMarked);
-    assert_eq!(pick(&mut record, &[0, 0], 0), Picked::AlreadyMarked);
+    assert_eq!(pick(&mut record, &[0, 5, 0], 0), Picked::AlreadyMarked);
     // A refused table is refused all the same.
-    assert_eq!(pick(&mut record, &[0, 65], 0), Picked::Refused(Refusal { number: 6, place: 1 }));
+    assert_eq!(pick(&mut record, &[0, 5, 65], 0), Picked::Refused(Refusal { number: 6, place: 2 }));
+    assert_eq!(pick(&mut record, &[0, 40_000, 0], 0), Picked::Refused(Refusal { number: 6, place: 1 }));
     assert_eq!(record, with_marks(2, &[0]));
 }
 
@@ -83,9 +84,10 @@ fn pick_refuses_in_order_1_17_2_words_16() {
     assert_eq!(answer(with_marks(2, &[2]), &long, 600), Picked::Refused(refusal(17)));
     assert_eq!(answer(with_marks(2, &[511]), &long, 600), Picked::Refused(refusal(17)));
     assert_eq!(answer(with_marks(2, &[1]), &long, 600), Picked::Refused(refusal(2)));
-    assert_eq!(answer(with_marks(2, &[1]), &[0, 0, 4], 600), Picked::Refused(Refusal { number: 5, place: 2 }));
+    assert_eq!(answer(with_marks(2, &[1]), &[0, 5, 0, 4], 600), Picked::Refused(Refusal { number: 5, place: 3 }));
+    assert_eq!(answer(with_marks(2, &[1]), &[0, 32_769, 0], 600), Picked::Refused(Refusal { number: 6, place: 1 }));
     for atom in [2, 3, 600, 1 << 32, (1 << 32) + 1, u64::MAX] {
-        assert_eq!(answer(with_marks(2, &[1]), &[0, 0], atom), Picked::Refused(refusal(16)), "{atom}");
+        assert_eq!(answer(with_marks(2, &[1]), &[0, 5, 0], atom), Picked::Refused(refusal(16)), "{atom}");
     }
     assert_eq!(answer(with_marks(0, &[]), &[], 0), Picked::Refused(refusal(16)));
 }
@@ -97,7 +99,8 @@ fn settled_refuses_in_order_1_17_2_words() {
     assert_eq!(settled(&with_marks(2, &[2]), &long), Err(refusal(17)));
     assert_eq!(settled(&with_marks(2, &[1]), &long), Err(refusal(2)));
     assert_eq!(settled(&with_marks(2, &[1]), &[0]), Err(Refusal { number: 4, place: 1 }));
-    assert_eq!(settled(&with_marks(2, &[1]), &[0, 0]), Ok(true));
+    assert_eq!(settled(&with_marks(2, &[1]), &[0, 32_769, 0]), Err(Refusal { number: 6, place: 1 }));
+    assert_eq!(settled(&with_marks(2, &[1]), &[0, 5, 0]), Ok(true));
 }
 
 #[test]
@@ -109,9 +112,10 @@ fn report_refuses_in_order_1_17_2_3_words_18() {
     assert_eq!(report(&with_marks(2, &[1]), &long, &mut []), Err(refusal(2)));
     assert_eq!(report(&with_marks(2, &[1]), &[0], &mut room[..1]), Err(refusal(3)));
     assert_eq!(report(&with_marks(2, &[1]), &[0], &mut room), Err(Refusal { number: 4, place: 1 }));
-    assert_eq!(report(&with_marks(2, &[]), &[0, 0, 1, 0], &mut room), Err(refusal(18)));
+    assert_eq!(report(&with_marks(2, &[]), &[0, 32_769, 0, 1, 6, 0], &mut room), Err(Refusal { number: 6, place: 1 }));
+    assert_eq!(report(&with_marks(2, &[]), &[0, 5, 0, 1, 6, 0], &mut room), Err(refusal(18)));
     assert_eq!(room, [7; 2]);
-    assert_eq!(report(&with_marks(2, &[0]), &[0, 0, 1, 0], &mut room), Ok(()));
+    assert_eq!(report(&with_marks(2, &[0]), &[0, 5, 0, 1, 6, 0], &mut room), Ok(()));
     assert_eq!(room, [I, U]);
 }
 
@@ -143,7 +147,7 @@ fn each_pick_answers_by_the_least_closed_sets() {
     for seed in 0..3000 {
         let mut chance = Chance::new(seed);
         let (n, words) = random::small_table(&mut chance, 4);
-        let rules = parse(n, &words).unwrap();
+        let rules = rules_of(n, &words).unwrap();
         let mut record = random::record(&mut chance, n);
         let before = record;
         let marks = record.marks[0] as u32;
@@ -192,7 +196,7 @@ fn random_pick_orders_end_in_the_smallest_model() {
     for seed in 0..10_000 {
         let mut chance = Chance::new(50_000 + seed);
         let (n, words) = random::small_table(&mut chance, 4);
-        let rules = parse(n, &words).unwrap();
+        let rules = rules_of(n, &words).unwrap();
         let least = judge::smallest(&judge::well_supported_models(n as usize, &rules)).unwrap();
         let inconsistent = (0..n as usize).filter(|&atom| judge::value(least, 2 * atom) == I).count() as u64;
         let (mut record, _) = fresh(n);

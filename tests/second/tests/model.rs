@@ -4,7 +4,7 @@ use second::judge;
 use second::model::{clean, evaluate, held, markable, settle, values_of};
 use second::random::{self, Chance};
 use second::refusal::Refusal;
-use second::table::{Rule, parse};
+use second::table::{Rule, rules_of};
 use second::tables::written;
 use second::truth::{F, I, T, U};
 
@@ -48,14 +48,15 @@ fn refusals_in_order() {
     let room = &mut [7; 2][..];
     assert_eq!(evaluate(513, &[0; 8193], room), refused(1, 0));
     assert_eq!(evaluate(3, &[0; 8193], room), refused(2, 0));
-    assert_eq!(evaluate(3, &[9, 0], room), refused(3, 0));
-    assert_eq!(evaluate(2, &[9, 0], room), refused(5, 0));
+    assert_eq!(evaluate(3, &[0, 40_000, 0], room), refused(3, 0));
+    assert_eq!(evaluate(2, &[9, 40_000, 0], room), refused(5, 0));
+    assert_eq!(evaluate(2, &[0, 40_000, 0], room), refused(6, 1));
     assert_eq!(evaluate(u64::MAX, &[], room), refused(1, 0));
     assert_eq!(room, [7; 2]);
-    assert_eq!(evaluate(2, &[0, 0], room), Ok(()));
+    assert_eq!(evaluate(2, &[0, 32_768, 0], room), Ok(()));
     assert_eq!(room, [T, U]);
     let room = &mut [7; 3][..];
-    assert_eq!(evaluate(2, &[1, 0], room), Ok(()));
+    assert_eq!(evaluate(2, &[1, 0, 0], room), Ok(()));
     assert_eq!(room, [F, U, 7]);
     assert_eq!(evaluate(0, &[], room), Ok(()));
     assert_eq!(room, [F, U, 7]);
@@ -64,7 +65,7 @@ fn refusals_in_order() {
 
 #[test]
 fn n_512_and_513() {
-    let all_facts: Vec<u16> = (0..512).flat_map(|atom| [2 * atom, 0]).collect();
+    let all_facts: Vec<u16> = (0..512).flat_map(|atom| [2 * atom, atom + 1, 0]).collect();
     let mut values = vec![9; 513];
     assert_eq!(evaluate(512, &all_facts, &mut values), Ok(()));
     assert_eq!(values[..512], [T; 512]);
@@ -80,7 +81,7 @@ fn held_and_clean_are_the_least_closed_sets() {
     for seed in 0..3000 {
         let mut chance = Chance::new(seed);
         let (n, words) = random::small_table(&mut chance, 4);
-        let rules = parse(n, &words).unwrap();
+        let rules = rules_of(n, &words).unwrap();
         let marks = chance.below(1 << n) as u32;
         let marked: Vec<bool> = (0..n as usize).map(|atom| judge::has(marks, atom)).collect();
         let as_set = |row: Vec<bool>| row.iter().enumerate().fold(0u32, |set, (l, &is)| set | (is as u32) << l);
@@ -102,7 +103,7 @@ fn evaluation_gives_the_smallest_well_supported_model() {
         let mut chance = Chance::new(seed);
         let most_atoms = if seed % 20 == 0 { 6 } else { 4 };
         let (n, words) = random::small_table(&mut chance, most_atoms);
-        let rules = parse(n, &words).unwrap();
+        let rules = rules_of(n, &words).unwrap();
         let mut values = vec![9; n as usize];
         evaluate(n, &words, &mut values).unwrap();
         let models = judge::well_supported_models(n as usize, &rules);
@@ -129,7 +130,7 @@ fn settled_markings_of_large_tables_leave_nothing_to_mark() {
     for seed in 0..300 {
         let mut chance = Chance::new(seed);
         let (n, words) = random::large_table(&mut chance);
-        let rules = parse(n, &words).unwrap();
+        let rules = rules_of(n, &words).unwrap();
         let marked = settle(n, &rules).unwrap();
         assert_eq!(marked.len(), n as usize);
         assert_eq!(markable(&rules, &marked), []);

@@ -2,7 +2,7 @@
 
 use second::model::evaluate;
 use second::random::*;
-use second::table::{check, parse};
+use second::table::{Rule, check, encode, parse, rules_of};
 
 #[test]
 fn the_same_seed_gives_the_same_things() {
@@ -32,7 +32,7 @@ fn small_tables_are_rich_in_what_is_hard() {
     let (mut negative, mut loops, mut groups, mut opposite, mut own) = (0, 0, 0, 0, 0);
     for seed in 0..1000 {
         let (n, words) = small_table(&mut Chance::new(seed), 4);
-        let rules = parse(n, &words).unwrap();
+        let rules = rules_of(n, &words).unwrap();
         let in_body = |literal: usize, of: usize| {
             rules.iter().any(|rule| rule.head == of && rule.groups.iter().any(|group| group.contains(&literal)))
         };
@@ -60,13 +60,111 @@ fn large_tables_have_all_values_and_reach_the_limits() {
         }
         full_n += (n == 512) as u32;
         longest = longest.max(words.len());
-        for rule in parse(n, &words).unwrap() {
+        for rule in rules_of(n, &words).unwrap() {
             widest_body = widest_body.max(rule.groups.len());
             widest_group = widest_group.max(rule.groups.iter().map(Vec::len).max().unwrap_or(0));
         }
     }
     assert!(values_met.iter().all(|&count| count > 150), "{values_met:?}");
     assert!(full_n > 60 && widest_body == 64 && widest_group == 64 && longest > 4000, "{full_n} {longest}");
+}
+
+#[test]
+fn tables_have_lines_of_every_kind() {
+    let (mut by_hand, mut from_sheet, mut highest, mut mixed, mut falling, mut repeated) = (0, 0, 0, 0, 0, 0);
+    for seed in 0..1000 {
+        let (n, words) = small_table(&mut Chance::new(seed), 6);
+        let lines: Vec<usize> = parse(n, &words).unwrap().iter().map(|record| record.line).collect();
+        if lines.len() < 3 {
+            continue;
+        }
+        by_hand += lines.iter().all(|&line| line == 0) as u32;
+        from_sheet += (lines == (1..=lines.len()).collect::<Vec<_>>()) as u32;
+        highest += lines.iter().all(|&line| line == 32_768) as u32;
+        mixed += (lines.contains(&0) && lines.iter().any(|&line| line > 0)) as u32;
+        falling += lines.windows(2).any(|pair| pair[0] > pair[1]) as u32;
+        repeated += lines.windows(2).any(|pair| pair[0] == pair[1]) as u32;
+    }
+    let met = [by_hand, from_sheet, highest, mixed, falling, repeated];
+    assert!(met.iter().all(|&count| count > 100), "{met:?}");
+}
+
+#[test]
+fn each_kind_of_lines_is_what_it_says() {
+    let rules: Vec<Rule> = (0..300).map(|head| Rule { head, groups: Vec::new() }).collect();
+    let mut chance = Chance::new(3);
+    let mut drawn = |lines: Lines| -> Vec<usize> { with_lines(&mut chance, &rules, lines).iter().map(|record| record.line).collect() };
+    assert_eq!(drawn(Lines::ByHand), [0; 300]);
+    assert_eq!(drawn(Lines::FromSheet), (1..=300).collect::<Vec<_>>());
+    assert_eq!(drawn(Lines::Highest), [32_768; 300]);
+    for eighth in 0..8 {
+        let within = |line: &&usize| **line / 4096 == eighth && **line > 300;
+        assert!(drawn(Lines::AnyOrder).iter().filter(within).count() > 20);
+        assert!(drawn(Lines::SomeByHand).iter().filter(within).count() > 3);
+    }
+    assert!(drawn(Lines::AnyOrder).iter().all(|&line| line <= 32_768));
+    let some = drawn(Lines::SomeByHand);
+    assert!(some.iter().filter(|&&line| line == 0).count() > 60);
+    assert!(some.iter().enumerate().filter(|&(i, &line)| line == i + 1).count() > 60);
+}
+
+#[test]
+fn line_places_are_those_of_the_records() {
+    assert_eq!(line_places(&[]), []);
+    assert_eq!(line_places(&[0, 7, 2, 1, 0, 2, 1, 1, 1, 8, 0]), [1, 9]);
+    // Cut short, and counts beyond their limits.
+    assert_eq!(line_places(&[0, 7, 2, 1, 0, 2]), [1]);
+    assert_eq!(line_places(&[0, 7, 0, 3, 40_000]), [1, 4]);
+    assert_eq!(line_places(&[0, 7, 1, 0, 3, 9, u16::MAX, u16::MAX]), [1, 5]);
+    for seed in 0..300 {
+        let (n, words) = accepted_table(&mut Chance::new(seed));
+        let lines: Vec<u16> = parse(n, &words).unwrap().iter().map(|record| record.line as u16).collect();
+        assert_eq!(line_places(&words).into_iter().map(|at| words[at]).collect::<Vec<_>>(), lines, "seed {seed}");
+    }
+}
+
+#[test]
+fn lines_too_high_and_cuts_around_a_line_are_common() {
+    let (mut edges, mut between, mut after_head, mut after_line, mut in_order) = ([0; 2], 0, 0, 0, 0);
+    for seed in 0..6000 {
+        let (n, words) = any_table(&mut Chance::new(seed));
+        let Err(refusal) = check(n, &words) else { continue };
+        let places = line_places(&words);
+        let at = refusal.place as usize;
+        match refusal.number {
+            6 if places.contains(&at) => {
+                match words[at] {
+                    32_769 => edges[0] += 1,
+                    u16::MAX => edges[1] += 1,
+                    _ => between += 1,
+                }
+                in_order += words.get(at + 1).is_some_and(|&m| m > 64) as u32;
+            }
+            4 if places.contains(&(at - 1)) => after_line += 1,
+            4 if word_roles(&words)[at - 1] == WordRole::Head => after_head += 1,
+            // A line that is faulty too, after the head that decides.
+            5 | 7 => in_order += (places.contains(&(at + 1)) && words[at + 1] > 32_768) as u32,
+            _ => {}
+        }
+    }
+    let met = [edges[0], edges[1], between, after_head, after_line, in_order];
+    assert!(met.iter().all(|&count| count > 30) && in_order > 200, "{met:?}");
+}
+
+#[test]
+fn full_drafts_fill_exactly_the_words_asked_for() {
+    for seed in 0..40 {
+        let mut chance = Chance::new(seed);
+        let some = chance.between(200, 9000) as usize;
+        for words in [200, 8186, 8187, 8188, 8189, 8190, 8191, 8192, 8193, 9000, some] {
+            let draft = full_draft(&mut chance, words);
+            assert_eq!(draft.words(), words, "seed {seed}");
+            if words <= 8192 {
+                let contents = second::sheet::contents(&draft.sheet()).unwrap();
+                assert_eq!(encode(&contents.records).len(), words, "seed {seed}");
+            }
+        }
+    }
 }
 
 #[test]
@@ -85,10 +183,12 @@ fn drafts_are_accepted() {
     for seed in 0..600 {
         let draft = draft(&mut Chance::new(seed));
         let contents = second::sheet::contents(&draft.sheet()).unwrap_or_else(|refusal| panic!("{seed}: {refusal:?}"));
-        assert_eq!(contents.rules.len(), draft.lines.len());
+        let rules = contents.rules();
+        assert_eq!(rules.len(), draft.lines.len());
+        assert_eq!(encode(&contents.records).len(), draft.words());
         many_names += (contents.names.len() > 100) as u32;
-        many_groups += contents.rules.iter().any(|rule| rule.groups.len() > 50) as u32;
-        many_literals += contents.rules.iter().flat_map(|rule| &rule.groups).any(|group| group.len() > 50) as u32;
+        many_groups += rules.iter().any(|rule| rule.groups.len() > 50) as u32;
+        many_literals += rules.iter().flat_map(|rule| &rule.groups).any(|group| group.len() > 50) as u32;
     }
     assert!(many_names > 20 && many_groups > 20 && many_literals > 20, "{many_names} {many_groups} {many_literals}");
 }
@@ -122,6 +222,20 @@ fn heads_and_others_divide_the_names() {
     assert_eq!((lines_length(&heads), lines_length(&others)), (8, 12));
     assert_eq!((of(heads), of(others)), (vec![b"p".to_vec(), b"s".to_vec()], vec![b"q".to_vec(), b"r".to_vec(), b"t".to_vec()]));
     assert_eq!(heads_and_others(b"p\tq\np\n"), (Vec::new(), Vec::new()));
+}
+
+#[test]
+fn words_are_counted_by_literal() {
+    for for_a_head in [2, 3] {
+        assert_eq!(word_count(b"", for_a_head), 0);
+        assert_eq!(word_count(b"a\tb c\td\n-d\n", for_a_head), for_a_head + 3 + 2 + for_a_head);
+        assert_eq!(word_count(b"a\n-b\tc d", for_a_head), 2 * for_a_head + 3);
+    }
+    for seed in 0..300 {
+        let draft = draft(&mut Chance::new(seed));
+        assert_eq!(word_count(&draft.sheet(), 3), draft.words(), "seed {seed}");
+        assert_eq!(word_count(&draft.sheet(), 2), draft.words() - draft.lines.len(), "seed {seed}");
+    }
 }
 
 #[test]

@@ -4,8 +4,8 @@ use second::model;
 use second::random::{self, Chance, SHEET_DAMAGES, SheetDamage};
 use second::reader::{Reader, Reading, Role};
 use second::refusal::Refusal;
-use second::sheet::{Accepted, read_sheet};
-use second::table::check;
+use second::sheet::{Accepted, contents, line_of, read_sheet};
+use second::table::{check, parse};
 use second::tables::{EXAMPLES, WHOLE_RUN_INPUT, WHOLE_RUN_OUTPUT, written};
 use second::truth;
 
@@ -55,9 +55,9 @@ fn the_empty_sheet_is_accepted() {
 fn words_names_and_value_sheet() {
     let sheet = b"arrived\tlogged\tmailed -gap\n-gap\n";
     let run = run_with(sheet, 8200, 600, 100);
-    assert_eq!(run.answer, Ok(Accepted { n: 4, words_filled: 9, value_sheet_length: 34 }));
-    assert_eq!(run.words[..9], [0, 2, 1, 2, 2, 4, 7, 7, 0]);
-    assert!(run.words[9..].iter().all(|&word| word == 0));
+    assert_eq!(run.answer, Ok(Accepted { n: 4, words_filled: 11, value_sheet_length: 34 }));
+    assert_eq!(run.words[..11], [0, 1, 2, 1, 2, 2, 4, 7, 7, 2, 0]);
+    assert!(run.words[11..].iter().all(|&word| word == 0));
     let entries = [7, 32 * 8 + 6, 32 * 15 + 6, 32 * 23 + 3];
     assert_eq!(run.names[..4], entries);
     assert!(run.names[4..].iter().all(|&entry| entry == 0));
@@ -149,18 +149,18 @@ fn the_513th_name_is_12_at_its_first_byte() {
 #[test]
 fn the_65th_group_and_the_65th_literal_are_13() {
     let groups = |count: usize| [b"a".to_vec(), b"\t-b".repeat(count), b"\n".to_vec()].concat();
-    assert_eq!(run(&groups(64)).answer.unwrap().words_filled, 2 + 128);
+    assert_eq!(run(&groups(64)).answer.unwrap().words_filled, 3 + 128);
     assert_eq!(refused(&groups(65)), (13, 1 + 64 * 3 + 1));
     assert_eq!(refused(&groups(66)), (13, 1 + 64 * 3 + 1));
     let literals = |count: usize| [b"a\tb".to_vec(), b" -b".repeat(count - 1), b"\n".to_vec()].concat();
-    assert_eq!(run(&literals(64)).answer.unwrap().words_filled, 2 + 65);
+    assert_eq!(run(&literals(64)).answer.unwrap().words_filled, 3 + 65);
     assert_eq!(refused(&literals(65)), (13, 3 + 63 * 3 + 1));
     // 64 literals in a later group, and a group after 64 literals.
     let second = [b"a\tc".to_vec(), b" c".repeat(63), b"\tb".to_vec(), b" b".repeat(64), b"\n".to_vec()].concat();
     assert_eq!(refused(&second), (13, second.len() as u64 - 2));
     // 64 groups in each of two lines.
     let lines = [groups(64), b"-".to_vec(), groups(64)].concat();
-    assert_eq!(run(&lines).answer.unwrap().words_filled, 2 * 130);
+    assert_eq!(run(&lines).answer.unwrap().words_filled, 2 * 131);
     // 12 comes before 13.
     let (names, next) = names_512();
     let both = [names.clone(), b"n1".to_vec(), b"\tn2".repeat(64), b"\t".to_vec(), next, b"\n".to_vec()].concat();
@@ -174,7 +174,7 @@ fn words_8192_and_8193() {
         let draft = random::full_draft(&mut chance, 8192);
         let sheet = draft.sheet();
         assert_eq!(run(&sheet).answer.unwrap().words_filled, 8192);
-        // A head needs two words more.
+        // A head needs three words more.
         let length = sheet.len() as u64;
         let more = |line: &[u8]| [&sheet[..], line].concat();
         assert_eq!(refused(&more(b"new\n")), (14, length));
@@ -187,28 +187,37 @@ fn words_8192_and_8193() {
 }
 
 #[test]
-fn words_counted_are_2_for_a_head_2_for_a_first_and_1_for_a_further() {
+fn words_counted_are_3_for_a_head_2_for_a_first_and_1_for_a_further() {
     let mut chance = Chance::new(15);
-    // Room for exactly two words: a fact fits, a head with a group does not.
-    let sheet = random::full_draft(&mut chance, 8190).sheet();
+    // Room for one word or two: no head at all.
+    for words in [8190, 8191] {
+        let sheet = random::full_draft(&mut chance, words).sheet();
+        let length = sheet.len() as u64;
+        let more = |line: &[u8]| [&sheet[..], line].concat();
+        assert_eq!(run(&sheet).answer.unwrap().words_filled, words as u64);
+        assert_eq!(refused(&more(b"new\n")), (14, length));
+        assert_eq!(refused(&more(b"-new\tnew\n")), (14, length));
+    }
+    // Room for exactly three words: a fact fits, a head with a group does not.
+    let sheet = random::full_draft(&mut chance, 8189).sheet();
     let length = sheet.len() as u64;
     let more = |line: &[u8]| [&sheet[..], line].concat();
     assert_eq!(run(&more(b"new\n")).answer.unwrap().words_filled, 8192);
     assert_eq!(refused(&more(b"new\t-new\n")), (14, length + 4));
-    // Room for three: the first of a group needs two more after the head.
-    let sheet = random::full_draft(&mut chance, 8189).sheet();
+    // Room for four: the first of a group needs two more after the head.
+    let sheet = random::full_draft(&mut chance, 8188).sheet();
     let length = sheet.len() as u64;
     let more = |line: &[u8]| [&sheet[..], line].concat();
     assert_eq!(run(&more(b"new\n")).answer.unwrap().words_filled, 8191);
     assert_eq!(refused(&more(b"new\tnew\n")), (14, length + 4));
-    // Room for four: no further literal.
-    let sheet = random::full_draft(&mut chance, 8188).sheet();
+    // Room for five: no further literal.
+    let sheet = random::full_draft(&mut chance, 8187).sheet();
     let length = sheet.len() as u64;
     let more = |line: &[u8]| [&sheet[..], line].concat();
     assert_eq!(run(&more(b"new\tnew\n")).answer.unwrap().words_filled, 8192);
     assert_eq!(refused(&more(b"new\tnew -new\n")), (14, length + 8));
-    // Room for five: one further literal, none after it.
-    let sheet = random::full_draft(&mut chance, 8187).sheet();
+    // Room for six: one further literal, none after it.
+    let sheet = random::full_draft(&mut chance, 8186).sheet();
     let length = sheet.len() as u64;
     let more = |line: &[u8]| [&sheet[..], line].concat();
     assert_eq!(run(&more(b"new\tnew new\n")).answer.unwrap().words_filled, 8192);
@@ -216,11 +225,70 @@ fn words_counted_are_2_for_a_head_2_for_a_first_and_1_for_a_further() {
 }
 
 #[test]
+fn a_sheet_that_two_words_for_a_head_would_let_pass_is_14() {
+    // Both literals of 455 atoms, each with a group of six: 8,190 words by two for a head, but by three for 819 of these lines.
+    let line = |i: usize| format!("{}n{}\tn0 n1 n2 n3 n4 n5\n", if i % 2 == 1 { "-" } else { "" }, i / 2);
+    let sheet: String = (0..910).map(line).collect();
+    assert_eq!(random::word_count(sheet.as_bytes(), 2), 8190);
+    let most: String = (0..819).map(line).collect();
+    assert_eq!(run(most.as_bytes()).answer.unwrap().words_filled, 8190);
+    assert_eq!(refused(sheet.as_bytes()), (14, most.len() as u64));
+    let mut chance = Chance::new(18);
+    for _ in 0..40 {
+        let sheet = random::full_draft(&mut chance, 8193).sheet();
+        assert!(random::word_count(&sheet, 2) < 8000);
+        assert_eq!(refused(&sheet).0, 14);
+    }
+}
+
+#[test]
+fn a_record_has_the_line_of_its_head_from_1() {
+    let lines = |sheet: &[u8]| -> Vec<usize> { contents(sheet).unwrap().records.iter().map(|record| record.line).collect() };
+    assert_eq!(lines(b"a\n"), [1]);
+    assert_eq!(lines(b"a\tb c\td\nb\n-a\tc\n"), [1, 2, 3]);
+    assert_eq!(run(b"a\tb c\td\nb\n-a\tc\n").words[..20], [0, 1, 2, 2, 2, 4, 1, 6, 2, 2, 0, 1, 3, 1, 1, 4, 0, 0, 0, 0]);
+    assert_eq!(line_of(b"a\nb\n", 0), 1);
+    assert_eq!(line_of(b"a\nb\n", 1), 1);
+    assert_eq!(line_of(b"a\nb\n", 2), 2);
+    assert_eq!(line_of(b"a\nb\n", 4), 3);
+    // Bodies of 64 groups and of 64 literals take no line of their own.
+    let long = [b"a".to_vec(), b"\tb c".repeat(64), b"\nb\tc".to_vec(), b" d".repeat(63), b"\nc\n".to_vec()].concat();
+    assert_eq!(lines(&long), [1, 2, 3]);
+    // As many lines as a sheet can have: both literals of 512 atoms.
+    let all: String = (0..512).map(|i| format!("n{i}\n-n{i}\n")).collect();
+    assert_eq!(lines(all.as_bytes()), (1..=1024).collect::<Vec<_>>());
+    assert_eq!(run(all.as_bytes()).words[3069..3072], [1023, 1024, 0]);
+}
+
+#[test]
+fn the_line_in_the_words_is_where_the_head_stands() {
+    let (mut met, mut highest) = (0, 0);
+    for seed in 0..1000 {
+        let sheet = random::accepted_sheet(&mut Chance::new(seed));
+        let run = run(&sheet);
+        let accepted = run.answer.unwrap();
+        let records = parse(accepted.n, &run.words[..accepted.words_filled as usize]).unwrap();
+        let lines: Vec<&[u8]> = sheet.split_inclusive(|&byte| byte == b'\n').collect();
+        assert_eq!(records.len(), lines.len(), "seed {seed}");
+        for record in &records {
+            let head = lines[record.line - 1].split(|byte| b"\t\n".contains(byte)).next().unwrap();
+            let entry = run.names[record.rule.head / 2] as usize;
+            let name = &sheet[entry / 32..entry / 32 + entry % 32];
+            let sign: &[u8] = if record.rule.head % 2 == 1 { b"-" } else { b"" };
+            assert_eq!(head, [sign, name].concat(), "seed {seed}");
+        }
+        met += records.len();
+        highest = highest.max(records.len());
+    }
+    assert!(met > 10_000 && highest > 200, "{met} {highest}");
+}
+
+#[test]
 fn thirteen_comes_before_14() {
     // Two words are left after 64 groups, so a 65th group has both faults.
     let mut chance = Chance::new(16);
     let line = [b"new".to_vec(), b"\tb1".repeat(64)].concat();
-    let sheet = [random::full_draft(&mut chance, 8192 - 130).sheet(), line].concat();
+    let sheet = [random::full_draft(&mut chance, 8192 - 131).sheet(), line].concat();
     assert_eq!(run(&[&sheet[..], b"\n"].concat()).answer.unwrap().words_filled, 8192);
     let length = sheet.len() as u64;
     assert_eq!(refused(&[&sheet[..], b"\tb1\n"].concat()), (13, length + 1));
@@ -254,7 +322,7 @@ fn sheets_of_65536_and_65537_bytes() {
     }
     assert_eq!(sheet.len(), 65_536);
     let accepted = run(&sheet).answer.unwrap();
-    assert_eq!(accepted.words_filled, 64 * (2 + 41 + 2));
+    assert_eq!(accepted.words_filled, 64 * (3 + 41 + 2));
     sheet.push(b'\n');
     assert_eq!(refused(&sheet), (8, 0));
     sheet.pop();
@@ -404,7 +472,7 @@ fn the_reader_from_the_start_agrees_with_the_entry() {
                 // The words told by the literals alone, with names numbered by a plain search.
                 let mut names: Vec<&[u8]> = Vec::new();
                 let mut words: Vec<u16> = Vec::new();
-                let (mut m, mut k) = (0, 0);
+                let (mut line, mut m, mut k) = (0, 0, 0);
                 for (role, negated, _, name) in literals {
                     let atom = names.iter().position(|&known| known == name).unwrap_or_else(|| {
                         names.push(name);
@@ -413,8 +481,9 @@ fn the_reader_from_the_start_agrees_with_the_entry() {
                     let code = (2 * atom + negated as usize) as u16;
                     match role {
                         Role::Head => {
-                            m = words.len() + 1;
-                            words.extend([code, 0]);
+                            line += 1;
+                            m = words.len() + 2;
+                            words.extend([code, line, 0]);
                         }
                         Role::First => {
                             words[m] += 1;

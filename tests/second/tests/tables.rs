@@ -1,7 +1,7 @@
 //! The tables to measure on are what their names say.
 
 use second::model::evaluate;
-use second::table::{check, parse};
+use second::table::{check, parse, rules_of};
 use second::tables::{self, MEASURED};
 use second::truth::{I, T, U};
 
@@ -13,13 +13,15 @@ fn values(table: fn() -> (u64, Vec<u16>)) -> Vec<u8> {
 }
 
 #[test]
-fn all_are_accepted_with_n_512_and_their_length() {
-    let lengths = [2046, 8192, 8192, 2558, 8192, 2048, 3066, 8192, 2540, 8192, 5950];
+fn all_are_accepted_with_n_512_their_length_and_the_lines_of_a_sheet() {
+    let lengths = [2558, 8192, 8192, 3326, 8192, 3072, 3580, 8192, 3176, 8192, 6590];
     for (measured, length) in MEASURED.iter().zip(lengths) {
         let (n, words) = (measured.table)();
         assert_eq!(n, 512, "{}", measured.name);
         assert_eq!(check(n, &words), Ok(()), "{}", measured.name);
         assert_eq!(words.len(), length, "{}", measured.name);
+        let lines: Vec<usize> = parse(n, &words).unwrap().iter().map(|record| record.line).collect();
+        assert_eq!(lines, (1..=lines.len()).collect::<Vec<_>>(), "{}", measured.name);
     }
 }
 
@@ -53,16 +55,17 @@ fn each_has_the_values_it_is_made_for() {
 #[test]
 fn max_random_has_1024_heads_and_400_facts() {
     let (n, words) = tables::max_random();
-    let rules = parse(n, &words).unwrap();
+    let rules = rules_of(n, &words).unwrap();
     assert_eq!(rules.len(), 1024);
     assert_eq!(rules.iter().filter(|rule| rule.groups.is_empty()).count(), 400);
-    assert!(rules.iter().filter(|rule| rule.groups.len() > 1).count() > 250);
+    let several = rules.iter().filter(|rule| rule.groups.len() > 1).count();
+    assert!(several > 250, "{several}");
 }
 
 #[test]
 fn marks_need_one_another() {
     let (n, words) = tables::marks_seq();
-    let rules = parse(n, &words).unwrap();
+    let rules = rules_of(n, &words).unwrap();
     let mut marked = vec![false; 512];
     for round in 0..512 {
         assert_eq!(second::model::markable(&rules, &marked), [round]);
@@ -75,5 +78,5 @@ fn a_table_written_out_is_its_sheet() {
     let table = tables::written(&["g: h -k / k", "-k"]);
     assert_eq!(table.sheet(), b"g\th -k\tk\n-k\n");
     assert_eq!(table.literal("-k"), 5);
-    assert_eq!(table.words(), [0, 2, 2, 2, 5, 1, 4, 5, 0]);
+    assert_eq!(table.words(), [0, 1, 2, 2, 2, 5, 1, 4, 5, 2, 0]);
 }

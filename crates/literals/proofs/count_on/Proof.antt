@@ -9,20 +9,23 @@ names-with-requires c κs = search needs
 enum-told : tie.Need-enum-told
 enum-told c = search needs
 
-add-t9 : tie.Need-add-t9
-add-t9 c = search needs
+add-t10 : tie.Need-add-t10
+add-t10 c = search needs
+
+add-t11 : tie.Need-add-t11
+add-t11 c = search needs
 
 enum-told-2 : tie.Need-enum-told-2
 enum-told-2 c = search needs
 
-add-t10 : tie.Need-add-t10
-add-t10 c = search needs
+add-t12 : tie.Need-add-t12
+add-t12 c = search needs
 
 enum-told-3 : tie.Need-enum-told-3
 enum-told-3 c = search needs
 
-add-t11 : tie.Need-add-t11
-add-t11 c = search needs
+add-t13 : tie.Need-add-t13
+add-t13 c = search needs
 
 returns : tie.Need-returns
 returns c =
@@ -42,11 +45,12 @@ count-on-spec =
     (tie.spec
     names-with-requires
     enum-told
-    add-t9
-    enum-told-2
     add-t10
-    enum-told-3
     add-t11
+    enum-told-2
+    add-t12
+    enum-told-3
+    add-t13
     returns
     returns-2
     returns-3)

@@ -10,7 +10,7 @@ put-head-requires : tie.Need-put-head-requires
 put-head-requires c κs =
     let entry = c .before .before .before .before in
     let h = rw (c .before .enum-told .given .1) at (entry .pre .0) in
-    (omega (arith, h), entry .pre .1 .1 .1 .1)
+    (omega (arith, h), (entry .pre .1 .0, entry .pre .1 .1 .1 .1 .1))
 
 enum-told-2 : tie.Need-enum-told-2
 enum-told-2 c = search needs
@@ -19,8 +19,8 @@ put-first-requires : tie.Need-put-first-requires
 put-first-requires c κs =
     let entry = c .before .before .before .before in
     let h = rw (c .before .enum-told2 .given .1) at (entry .pre .0) in
-    let b = rw (c .before .enum-told2 .given .1) at (entry .pre .1 .1 .1 .0) in
-    (omega (arith, h), (entry .pre .1 .0, (omega (arith, b), entry .pre .1 .1 .1 .1)))
+    let b = rw (c .before .enum-told2 .given .1) at (entry .pre .1 .1 .1 .1 .0) in
+    (omega (arith, h), (entry .pre .1 .1 .0, (omega (arith, b), entry .pre .1 .1 .1 .1 .1)))
 
 enum-told-3 : tie.Need-enum-told-3
 enum-told-3 c = search needs
@@ -29,8 +29,8 @@ put-further-requires : tie.Need-put-further-requires
 put-further-requires c κs =
     let entry = c .before .before .before .before in
     let h = rw (c .before .enum-told3 .given .1) at (entry .pre .0) in
-    let b = rw (c .before .enum-told3 .given .1) at (entry .pre .1 .1 .1 .0) in
-    (omega (arith, h), (entry .pre .1 .1 .0, (omega (arith, b), entry .pre .1 .1 .1 .1)))
+    let b = rw (c .before .enum-told3 .given .1) at (entry .pre .1 .1 .1 .1 .0) in
+    (omega (arith, h), (entry .pre .1 .1 .1 .0, (omega (arith, b), entry .pre .1 .1 .1 .1 .1)))
 
 same-length : tie.Need-same-length
 same-length c = search needs

@@ -24,6 +24,12 @@ enum-told-4 c = search needs
 refused-requires-3 : tie.Need-refused-requires-3
 refused-requires-3 c κs = search needs
 
+enum-told-5 : tie.Need-enum-told-5
+enum-told-5 c = search needs
+
+refused-requires-4 : tie.Need-refused-requires-4
+refused-requires-4 c κs = search needs
+
 returns : tie.Need-returns
 returns c = search needs
 
@@ -36,6 +42,9 @@ returns-3 c = simp (c .before .enum-told3 .given .1, sym (c .refused2 .ensures))
 returns-4 : tie.Need-returns-4
 returns-4 c = simp (c .before .enum-told4 .given .1, sym (c .refused3 .ensures))
 
+returns-5 : tie.Need-returns-5
+returns-5 c = simp (c .before .enum-told5 .given .1, sym (c .refused4 .ensures))
+
 pub ended-at-spec : {M : Type 1} → statement M
 ended-at-spec =
     tie.close
@@ -47,7 +56,10 @@ ended-at-spec =
     refused-requires-2
     enum-told-4
     refused-requires-3
+    enum-told-5
+    refused-requires-4
     returns
     returns-2
     returns-3
-    returns-4)
+    returns-4
+    returns-5)

@@ -18,17 +18,23 @@ first-of-requires c κs = search needs
 enum-told-2 : tie.Need-enum-told-2
 enum-told-2 c = search needs
 
-length-fault-requires : tie.Need-length-fault-requires
-length-fault-requires c κs = search needs
+range-fault-requires : tie.Need-range-fault-requires
+range-fault-requires c κs = search needs
 
 enum-told-3 : tie.Need-enum-told-3
 enum-told-3 c = search needs
 
-length-fault-requires-2 : tie.Need-length-fault-requires-2
-length-fault-requires-2 c κs = search needs
+range-fault-requires-2 : tie.Need-range-fault-requires-2
+range-fault-requires-2 c κs = search needs
 
 enum-told-4 : tie.Need-enum-told-4
 enum-told-4 c = search needs
+
+range-fault-requires-3 : tie.Need-range-fault-requires-3
+range-fault-requires-3 c κs = search needs
+
+enum-told-5 : tie.Need-enum-told-5
+enum-told-5 c = search needs
 
 code-fault-requires-2 : tie.Need-code-fault-requires-2
 code-fault-requires-2 c κs = search needs
@@ -43,13 +49,16 @@ returns c =
     )
 
 returns-2 : tie.Need-returns-2
-returns-2 c = simp (c .before .enum-told2 .given .1, sym (c .length-fault .ensures))
+returns-2 c = simp (c .before .enum-told2 .given .1, sym (c .range-fault .ensures))
 
 returns-3 : tie.Need-returns-3
-returns-3 c = simp (c .before .enum-told3 .given .1, sym (c .length-fault2 .ensures))
+returns-3 c = simp (c .before .enum-told3 .given .1, sym (c .range-fault2 .ensures))
 
 returns-4 : tie.Need-returns-4
-returns-4 c = simp (c .before .enum-told4 .given .1, sym (c .code-fault2 .ensures))
+returns-4 c = simp (c .before .enum-told4 .given .1, sym (c .range-fault3 .ensures))
+
+returns-5 : tie.Need-returns-5
+returns-5 c = simp (c .before .enum-told5 .given .1, sym (c .code-fault2 .ensures))
 
 pub fault-of-spec : {M : Type 1} → statement M
 fault-of-spec =
@@ -60,12 +69,15 @@ fault-of-spec =
     repeat-fault-requires
     first-of-requires
     enum-told-2
-    length-fault-requires
+    range-fault-requires
     enum-told-3
-    length-fault-requires-2
+    range-fault-requires-2
     enum-told-4
+    range-fault-requires-3
+    enum-told-5
     code-fault-requires-2
     returns
     returns-2
     returns-3
-    returns-4)
+    returns-4
+    returns-5)

@@ -9,6 +9,9 @@ enum-told c = search needs
 enum-told-2 : tie.Need-enum-told-2
 enum-told-2 c = search needs
 
+enum-told-3 : tie.Need-enum-told-3
+enum-told-3 c = search needs
+
 groups-due-requires : tie.Need-groups-due-requires
 groups-due-requires c κs = search needs
 
@@ -31,10 +34,13 @@ returns-2 : tie.Need-returns-2
 returns-2 c = search needs
 
 returns-3 : tie.Need-returns-3
-returns-3 c = simp (c .before .before .due .given .1, sym (c .literals-due .ensures))
+returns-3 c = search needs
 
 returns-4 : tie.Need-returns-4
-returns-4 c = simp (c .before .before .due2 .given .1, sym (c .literals-due2 .ensures))
+returns-4 c = simp (c .before .before .due .given .1, sym (c .literals-due .ensures))
+
+returns-5 : tie.Need-returns-5
+returns-5 c = simp (c .before .before .due2 .given .1, sym (c .literals-due2 .ensures))
 
 pub next-due-spec : {M : Type 1} → statement M
 next-due-spec =
@@ -42,6 +48,7 @@ next-due-spec =
     (tie.spec
     enum-told
     enum-told-2
+    enum-told-3
     groups-due-requires
     enum-known-due
     literals-due-requires
@@ -50,4 +57,5 @@ next-due-spec =
     returns
     returns-2
     returns-3
-    returns-4)
+    returns-4
+    returns-5)

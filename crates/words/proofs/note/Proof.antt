@@ -18,6 +18,9 @@ enum-told-3 c = search needs
 enum-told-4 : tie.Need-enum-told-4
 enum-told-4 c = search needs
 
+enum-told-5 : tie.Need-enum-told-5
+enum-told-5 c = search needs
+
 same-length : tie.Need-same-length
 same-length c = search needs
 
@@ -35,6 +38,9 @@ returns-3 c = search needs
 returns-4 : tie.Need-returns-4
 returns-4 c = search needs
 
+returns-5 : tie.Need-returns-5
+returns-5 c = search needs
+
 pub note-spec : {M : Type 1} → statement M
 note-spec =
     tie.close
@@ -44,8 +50,10 @@ note-spec =
     enum-told-2
     enum-told-3
     enum-told-4
+    enum-told-5
     same-length
     returns
     returns-2
     returns-3
-    returns-4)
+    returns-4
+    returns-5)

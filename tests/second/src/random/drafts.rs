@@ -21,7 +21,7 @@ pub struct DraftLine {
 impl DraftLine {
     /// The words that the line fills.
     pub fn words(&self) -> usize {
-        2 + self.groups.iter().map(|group| 1 + group.len()).sum::<usize>()
+        3 + self.groups.iter().map(|group| 1 + group.len()).sum::<usize>()
     }
 }
 
@@ -154,12 +154,11 @@ pub fn full_draft(chance: &mut Chance, words: usize) -> Draft {
     let mut room = words;
     for code in heads {
         let head = DraftLiteral { negated: code % 2 == 1, name: code / 2 };
-        // A line fills 2 words or at least 4; the rest must allow that.
-        let groups = if room == 2 {
+        // A line fills 3 words or at least 5; the rest must allow that.
+        let groups = if room == 3 {
             Vec::new()
         } else {
-            let most = (room - 3).min(64);
-            let k = if room <= 67 { room - 3 } else { (20 + chance.index(20)).min(most) };
+            let k = if room <= 68 { room - 4 } else { 20 + chance.index(20) };
             vec![(0..k).map(|_| draft_literal(chance, names.len())).collect()]
         };
         let line = DraftLine { head, groups };

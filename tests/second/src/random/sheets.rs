@@ -147,8 +147,20 @@ pub fn damaged_sheet(chance: &mut Chance, damage: SheetDamage) -> Vec<u8> {
             base.lines = vec![DraftLine { head: base.lines[0].head, groups }];
             base.sheet()
         }
-        SheetDamage::TooManyWords => full_draft(chance, MOST_WORDS + 1).sheet(),
+        SheetDamage::TooManyWords => too_many_words(chance).sheet(),
     }
+}
+
+/// A draft whose last literal passes 8,192 words: a head, the first of a group or a further one.
+fn too_many_words(chance: &mut Chance) -> Draft {
+    // The words left for the last line, and the literals of its group.
+    let (left, literals) = chance.of(&[(0, 0), (1, 0), (2, 0), (3, 1), (4, 1), (5, 2)]);
+    let mut draft = full_draft(chance, MOST_WORDS - left);
+    let head = DraftLiteral { negated: chance.one_in(2), name: draft.names.len() };
+    let group = vec![head; literals];
+    draft.names.push(b"new".to_vec());
+    draft.lines.push(DraftLine { head, groups: if literals == 0 { Vec::new() } else { vec![group] } });
+    draft
 }
 
 /// One such byte of the sheet twice; if it has none, one is put in front.
@@ -225,10 +237,18 @@ pub fn any_sheet(chance: &mut Chance) -> Vec<u8> {
 /// The names of a sheet that head a rule in either sign, and those that stand only in bodies; none of a sheet that is refused.
 pub fn heads_and_others(sheet: &[u8]) -> (Vec<Name>, Vec<Name>) {
     let Ok(contents) = contents(sheet) else { return (Vec::new(), Vec::new()) };
-    let headed: BTreeSet<usize> = contents.rules.iter().map(|rule| atom_of(rule.head)).collect();
+    let headed: BTreeSet<usize> = contents.records.iter().map(|record| atom_of(record.rule.head)).collect();
     let (heads, others): (Vec<_>, Vec<_>) = contents.names.into_iter().enumerate().partition(|(atom, _)| headed.contains(atom));
     let names = |numbered: Vec<(usize, Name)>| numbered.into_iter().map(|(_, name)| name).collect();
     (names(heads), names(others))
+}
+
+/// The words of the literals of a sheet, with so many counted for a head.
+pub fn word_count(sheet: &[u8], for_a_head: usize) -> usize {
+    let parts = |line: &[u8]| line.split(|byte| b"\t ".contains(byte)).count();
+    let groups = |line: &[u8]| line.iter().filter(|&&byte| byte == b'\t').count();
+    let words = |line: &[u8]| for_a_head + parts(line) - 1 + groups(line);
+    sheet.split(|&byte| byte == b'\n').filter(|line| !line.is_empty()).map(words).sum()
 }
 
 /// The bytes that the value lines of these names take.

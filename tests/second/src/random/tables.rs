@@ -2,7 +2,7 @@
 
 use crate::random::{Chance, awkward_number};
 use crate::refusal::*;
-use crate::table::{Literal, Rule, encode};
+use crate::table::{Literal, Record, Rule, encode, numbered, rules_of};
 
 /// How rules are drawn.
 #[derive(Clone, Copy, Debug)]
@@ -50,11 +50,52 @@ fn group(chance: &mut Chance, n: u64, shape: Shape) -> Vec<Literal> {
     (0..k).map(|_| 2 * chance.below(n) as usize + chance.percent(shape.negative) as usize).collect()
 }
 
+/// How the records of a table get their lines.
+#[derive(Clone, Copy, Debug, PartialEq, Eq)]
+pub enum Lines {
+    ByHand,
+    FromSheet,
+    AnyOrder,
+    SomeByHand,
+    Highest,
+}
+
+pub const ALL_LINES: [Lines; 5] = [Lines::ByHand, Lines::FromSheet, Lines::AnyOrder, Lines::SomeByHand, Lines::Highest];
+
+/// Records of these rules: 0 throughout, 1, 2, 3 .., any up to 32,768, such with zeros among them, or 32,768 throughout.
+pub fn with_lines(chance: &mut Chance, rules: &[Rule], lines: Lines) -> Vec<Record> {
+    let mut records = numbered(rules);
+    for record in records.iter_mut() {
+        let any = chance.index(MOST_LINE + 1);
+        record.line = match lines {
+            Lines::ByHand => 0,
+            Lines::FromSheet => record.line,
+            Lines::AnyOrder => any,
+            Lines::SomeByHand => chance.of(&[0, record.line, any]),
+            Lines::Highest => MOST_LINE,
+        };
+    }
+    records
+}
+
+/// The words of these rules, with lines of any kind.
+fn words_with_lines(chance: &mut Chance, rules: &[Rule]) -> Vec<u16> {
+    let lines = chance.of(&ALL_LINES);
+    encode(&with_lines(chance, rules, lines))
+}
+
+/// An accepted table once more, with lines drawn anew.
+pub fn other_lines(chance: &mut Chance, n: u64, words: &[u16]) -> Vec<u16> {
+    let rules = rules_of(n, words).expect("an accepted table");
+    words_with_lines(chance, &rules)
+}
+
 /// An accepted table with 1 to `most_atoms` atoms, rich in negation, loops and several groups.
 pub fn small_table(chance: &mut Chance, most_atoms: u64) -> (u64, Vec<u16>) {
     let n = chance.between(1, most_atoms);
     let shape = small_shape(chance);
-    (n, encode(&rules(chance, n, shape)))
+    let rules = rules(chance, n, shape);
+    (n, words_with_lines(chance, &rules))
 }
 
 /// An accepted table of any size up to the limits: sparse enough to leave all four values in it, often with a run of marks
@@ -83,12 +124,10 @@ pub fn large_table(chance: &mut Chance) -> (u64, Vec<u16>) {
         let literal = |chance: &mut Chance| chance.index(2 * n as usize);
         drawn[wide].groups = (0..m).map(|_| (0..k).map(|_| literal(chance)).collect()).collect();
     }
-    let mut words = encode(&drawn);
-    while words.len() > MOST_WORDS {
+    while encode(&numbered(&drawn)).len() > MOST_WORDS {
         drawn.pop();
-        words = encode(&drawn);
     }
-    (n, words)
+    (n, words_with_lines(chance, &drawn))
 }
 
 /// An accepted table, mostly small.
@@ -108,17 +147,19 @@ pub enum TableDamage {
     WordsAbove8192,
     CutShort,
     LiteralTooHigh,
+    LineTooHigh,
     TooManyGroups,
     EmptyGroup,
     TooManyLiterals,
     SecondHead,
 }
 
-pub const TABLE_DAMAGES: [TableDamage; 8] = [
+pub const TABLE_DAMAGES: [TableDamage; 9] = [
     TableDamage::AtomsAbove512,
     TableDamage::WordsAbove8192,
     TableDamage::CutShort,
     TableDamage::LiteralTooHigh,
+    TableDamage::LineTooHigh,
     TableDamage::TooManyGroups,
     TableDamage::EmptyGroup,
     TableDamage::TooManyLiterals,
@@ -133,34 +174,60 @@ impl TableDamage {
             TableDamage::WordsAbove8192 => TABLE_ABOVE_8192,
             TableDamage::CutShort => RECORD_CUT_SHORT,
             TableDamage::LiteralTooHigh => LITERAL_NOT_BELOW_2N,
-            TableDamage::TooManyGroups | TableDamage::EmptyGroup | TableDamage::TooManyLiterals => COUNT_OUT_OF_RANGE,
+            TableDamage::LineTooHigh
+            | TableDamage::TooManyGroups
+            | TableDamage::EmptyGroup
+            | TableDamage::TooManyLiterals => COUNT_OR_LINE_OUT_OF_RANGE,
             TableDamage::SecondHead => SECOND_RULE_FOR_HEAD,
         }
     }
 }
 
-/// What a word of an accepted table is.
+/// What a word of a table is.
 #[derive(Clone, Copy, Debug, PartialEq, Eq)]
-enum WordRole {
+pub enum WordRole {
     Head,
+    Line,
     GroupCount,
     GroupLength,
     BodyLiteral,
 }
 
-fn word_roles(words: &[u16]) -> Vec<WordRole> {
+/// The roles of all words, by the counts that stand before them, whether or not these are within their limits.
+pub fn word_roles(words: &[u16]) -> Vec<WordRole> {
     let mut roles = Vec::new();
-    let mut at = 0;
-    while at < words.len() {
-        roles.extend([WordRole::Head, WordRole::GroupCount]);
-        at += 2;
-        for _ in 0..words[at - 1] {
+    let number = |at: usize| words.get(at).copied().unwrap_or(0);
+    while roles.len() < words.len() {
+        roles.extend([WordRole::Head, WordRole::Line, WordRole::GroupCount]);
+        for _ in 0..number(roles.len() - 1) {
+            let k = number(roles.len()) as usize;
             roles.push(WordRole::GroupLength);
-            roles.resize(roles.len() + words[at] as usize, WordRole::BodyLiteral);
-            at += 1 + words[at] as usize;
+            roles.resize(roles.len() + k, WordRole::BodyLiteral);
+            if roles.len() >= words.len() {
+                break;
+            }
         }
     }
+    roles.truncate(words.len());
     roles
+}
+
+/// Where the line words of a table stand.
+pub fn line_places(words: &[u16]) -> Vec<usize> {
+    let roles = word_roles(words);
+    (0..words.len()).filter(|&at| roles[at] == WordRole::Line).collect()
+}
+
+/// A line at the edges of its range, or anywhere in 16 bits.
+pub fn any_line(chance: &mut Chance) -> u16 {
+    let any = chance.number() as u16;
+    chance.of(&[0, 1, 64, 65, 32_767, 32_768, 32_769, u16::MAX, any])
+}
+
+/// A line above 32,768.
+fn line_too_high(chance: &mut Chance) -> u16 {
+    let any = chance.between(MOST_LINE as u64 + 1, u16::MAX.into()) as u16;
+    chance.of(&[32_769, u16::MAX, any])
 }
 
 /// Damages an accepted table in one way. False if this table offers no place for it; it is then unaltered.
@@ -173,6 +240,7 @@ pub fn damage_table(chance: &mut Chance, n: &mut u64, words: &mut Vec<u16>, dama
         TableDamage::AtomsAbove512 | TableDamage::WordsAbove8192 => vec![0],
         TableDamage::CutShort => (1..words.len()).filter(|&at| roles[at] != WordRole::Head).collect(),
         TableDamage::LiteralTooHigh => places(&[WordRole::Head, WordRole::BodyLiteral]),
+        TableDamage::LineTooHigh => places(&[WordRole::Line]),
         TableDamage::TooManyGroups => places(&[WordRole::GroupCount]),
         TableDamage::EmptyGroup | TableDamage::TooManyLiterals => places(&[WordRole::GroupLength]),
         TableDamage::SecondHead => places(&[WordRole::Head]),
@@ -198,28 +266,42 @@ pub fn damage_table(chance: &mut Chance, n: &mut u64, words: &mut Vec<u16>, dama
             let codes = 2 * *n as u16;
             words[at] = chance.of(&[codes, codes + 1, u16::MAX, 0x8000, codes + 64]);
         }
+        TableDamage::LineTooHigh => words[at] = line_too_high(chance),
         TableDamage::TooManyGroups | TableDamage::TooManyLiterals => {
             words[at] = chance.of(&[65, 66, 128, 256, 320, u16::MAX]);
         }
         TableDamage::EmptyGroup => words[at] = 0,
         TableDamage::SecondHead => {
-            if words.len() > MOST_WORDS - 2 {
+            if words.len() > MOST_WORDS - 3 {
                 return false;
             }
-            let (head, fact) = (words[at], chance.one_in(2));
-            words.push(head);
-            if fact {
-                words.push(0);
-            }
+            // The head alone, cut after its line, or a whole fact; the line may be faulty too.
+            let record = [words[at], any_line(chance), 0];
+            words.extend(&record[..chance.between(1, 3) as usize]);
         }
     }
     true
 }
 
+/// Makes two or three of the first three words of a record faulty, so that the order within a record shows.
+pub fn damage_record(chance: &mut Chance, n: u64, words: &mut [u16]) {
+    let heads: Vec<usize> = line_places(words).into_iter().map(|line| line - 1).filter(|head| head + 2 < words.len()).collect();
+    if heads.is_empty() {
+        return;
+    }
+    let head = chance.of(&heads);
+    let sound = chance.index(4);
+    let code = chance.of(&[2 * n.min(512) as u16, u16::MAX, words[0]]);
+    let faulty = [code, line_too_high(chance), chance.of(&[65, 66, 256, u16::MAX])];
+    for i in (0..3).filter(|&i| i != sound) {
+        words[head + i] = faulty[i];
+    }
+}
+
 /// A table accepted about half the time, else damaged once or twice, or words at random.
 pub fn any_table(chance: &mut Chance) -> (u64, Vec<u16>) {
     let (mut n, mut words) = accepted_table(chance);
-    match chance.below(20) {
+    match chance.below(21) {
         0..=9 => {}
         10..=16 => {
             let damage = chance.of(&TABLE_DAMAGES);
@@ -239,10 +321,11 @@ pub fn any_table(chance: &mut Chance) -> (u64, Vec<u16>) {
             for _ in 0..chance.between(1, 2) {
                 if !words.is_empty() {
                     let at = chance.index(words.len());
-                    words[at] = chance.of(&[0, 1, 2, 3, 64, 65, 1023, 1024, u16::MAX]);
+                    words[at] = chance.of(&[0, 1, 2, 3, 64, 65, 1023, 1024, 32_768, 32_769, u16::MAX]);
                 }
             }
         }
+        19 => damage_record(chance, n, &mut words),
         _ => {
             let length = chance.index(40);
             words = (0..length).map(|_| chance.below(6) as u16).collect();

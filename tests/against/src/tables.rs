@@ -1,0 +1,59 @@
+//! What to note of a table: refusals that have to do with a line.
+
+use second::random::{WordRole, word_roles};
+use second::refusal::*;
+
+use crate::cases::Tally;
+
+/// 6 at a line word.
+pub const AT_A_LINE: &str = "6 at a line";
+
+/// 6 at a line word, with an m after it that is faulty too.
+pub const LINE_BEFORE_M: &str = "6 at a line before a faulty m";
+
+/// 5 or 7 at a head, with a line after it that is faulty too.
+pub const HEAD_BEFORE_LINE: &str = "5 or 7 at a head before a faulty line";
+
+/// 4 after a head.
+pub const CUT_AFTER_HEAD: &str = "4 after a head";
+
+/// 4 after a line word.
+pub const CUT_AFTER_LINE: &str = "4 after a line";
+
+/// All of these.
+pub const OF_LINES: [&str; 5] = [AT_A_LINE, LINE_BEFORE_M, HEAD_BEFORE_LINE, CUT_AFTER_HEAD, CUT_AFTER_LINE];
+
+/// Notes the answer for a table, and which of these it was.
+pub fn note<T>(tally: &mut Tally, what: &str, words: &[u16], answer: &Result<T, Refusal>) {
+    tally.answer(what, answer);
+    let Err(Refusal { number, place }) = *answer else { return };
+    let at = place as usize;
+    if !(RECORD_CUT_SHORT..=SECOND_RULE_FOR_HEAD).contains(&number) || at > words.len() {
+        return;
+    }
+    // What stands before the place is sound, so it tells the roles.
+    let role = |at: usize| word_roles(&words[..words.len().min(at + 1)]).get(at).copied();
+    let above = |at: usize, most: usize| words.get(at).is_some_and(|&word| word as usize > most);
+    match number {
+        COUNT_OR_LINE_OUT_OF_RANGE if role(at) == Some(WordRole::Line) => {
+            tally.also(AT_A_LINE);
+            if above(at + 1, MOST_GROUPS) {
+                tally.also(LINE_BEFORE_M);
+            }
+        }
+        LITERAL_NOT_BELOW_2N | SECOND_RULE_FOR_HEAD if above(at + 1, MOST_LINE) && role(at) == Some(WordRole::Head) => {
+            tally.also(HEAD_BEFORE_LINE);
+        }
+        RECORD_CUT_SHORT if at > 0 => match role(at - 1) {
+            Some(WordRole::Head) => tally.also(CUT_AFTER_HEAD),
+            Some(WordRole::Line) => tally.also(CUT_AFTER_LINE),
+            _ => {}
+        },
+        _ => {}
+    }
+}
+
+/// Each of these was met so many times.
+pub fn expect_of_lines(tally: &Tally, least: u64) {
+    tally.expect_also(&OF_LINES.map(|what| (what, least)));
+}

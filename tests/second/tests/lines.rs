@@ -1,0 +1,139 @@
+//! No answer depends on a line: tables that differ only in line words, through every entry that is lent a table.
+
+use second::host::simmerknot_evaluate;
+use second::marking::{MarkRecord, Picked, fresh, pick, report, settled};
+use second::model::evaluate;
+use second::random::{self, ALL_LINES, Chance, Lines, table_bytes};
+use second::refusal::Refusal;
+use second::sheet::{contents, line_of};
+use second::table::{check, encode, rules_of};
+use second::tables::{EXAMPLES, MEASURED};
+
+/// An answer and the value room after it.
+type Left<T> = (T, Vec<u8>);
+
+/// What the entries say of a table, and all that they leave.
+#[derive(Debug, PartialEq, Eq)]
+struct Said {
+    check: Result<(), Refusal>,
+    picks: Vec<(Picked, MarkRecord)>,
+    settled: Vec<Result<bool, Refusal>>,
+    reports: Vec<Left<Result<(), Refusal>>>,
+    evaluation: Left<Result<(), Refusal>>,
+    host: Left<u64>,
+}
+
+/// Picks from a fresh record or from one by hand, with questions and reports between them; then both evaluations.
+fn said(n: u64, words: &[u16], seed: u64) -> Said {
+    let mut chance = Chance::new(seed);
+    let mut record = if chance.one_in(2) { fresh(n).0 } else { random::record(&mut chance, n) };
+    let (mut picks, mut asked, mut reports) = (Vec::new(), Vec::new(), Vec::new());
+    for _ in 0..12 {
+        let atom = random::any_atom(&mut chance, n);
+        let picked = pick(&mut record, words, atom);
+        picks.push((picked, record));
+        asked.push(settled(&record, words));
+        let mut room = random::value_room(&mut chance, n);
+        reports.push((report(&record, words, &mut room), room));
+    }
+    let mut room = random::value_room(&mut chance, n);
+    let mut host_room = room.clone();
+    let answer = evaluate(n, words, &mut room);
+    let host = simmerknot_evaluate(n, &table_bytes(words), &mut host_room);
+    Said { check: check(n, words), picks, settled: asked, reports, evaluation: (answer, room), host: (host, host_room) }
+}
+
+#[test]
+fn tables_that_differ_only_in_lines_have_equal_answers() {
+    let (mut pairs, mut lines, mut values) = (0, 0, [0; 4]);
+    let (mut marked, mut reported, mut unsettled, mut small) = (0, 0, 0, 0);
+    for seed in 0..3000 {
+        let mut chance = Chance::new(seed);
+        let (n, words) = random::accepted_table(&mut chance);
+        let other = random::other_lines(&mut chance, n, &words);
+        assert_eq!(rules_of(n, &words), rules_of(n, &other), "seed {seed}");
+        let places = random::line_places(&words);
+        let differing: Vec<usize> = (0..words.len()).filter(|&at| words[at] != other[at]).collect();
+        assert!(words.len() == other.len() && differing.iter().all(|at| places.contains(at)), "seed {seed}");
+        let (one, two) = (said(n, &words, seed), said(n, &other, seed));
+        assert_eq!(one, two, "seed {seed}: {words:?} and {other:?}");
+        assert_eq!(one.check, Ok(()), "seed {seed}");
+        if differing.is_empty() {
+            continue;
+        }
+        pairs += 1;
+        lines += differing.len();
+        if one.evaluation.0.is_ok() {
+            one.evaluation.1[..n as usize].iter().for_each(|&value| values[value as usize] += 1);
+        }
+        marked += one.picks.iter().filter(|(picked, _)| *picked == Picked::Marked).count();
+        reported += one.reports.iter().filter(|(answer, _)| answer.is_ok()).count();
+        unsettled += one.reports.iter().filter(|(answer, _)| *answer == Err(Refusal { number: 18, place: 0 })).count();
+        small += (one.host.0 == 3 << 32) as u32;
+    }
+    assert!(pairs > 2000 && lines > 50_000 && values.iter().all(|&count| count > 5000), "{pairs} {lines} {values:?}");
+    assert!(marked > 2000 && reported > 5000 && unsettled > 5000 && small > 200, "{marked} {reported} {unsettled} {small}");
+}
+
+#[test]
+fn the_examples_with_lines_of_each_kind() {
+    for example in EXAMPLES {
+        let table = example.table();
+        for lines in ALL_LINES {
+            for seed in 0..10 {
+                let words = encode(&random::with_lines(&mut Chance::new(seed), &table.rules, lines));
+                assert_eq!(said(table.n(), &words, seed), said(table.n(), &table.words(), seed), "{}, {lines:?}", example.name);
+                let mut values = vec![9; table.names.len()];
+                assert_eq!(evaluate(table.n(), &words, &mut values), Ok(()), "{}, {lines:?}", example.name);
+                assert_eq!(values, example.values_in_order(), "{}, {lines:?}", example.name);
+            }
+        }
+    }
+}
+
+#[test]
+fn the_measured_tables_made_by_hand() {
+    for measured in MEASURED {
+        let (n, words) = (measured.table)();
+        let by_hand = encode(&random::with_lines(&mut Chance::new(0), &rules_of(n, &words).unwrap(), Lines::ByHand));
+        assert_ne!(words, by_hand, "{}", measured.name);
+        let [mut one, mut two] = [(); 2].map(|()| vec![9; n as usize]);
+        assert_eq!(evaluate(n, &words, &mut one), Ok(()), "{}", measured.name);
+        assert_eq!(evaluate(n, &by_hand, &mut two), Ok(()), "{}", measured.name);
+        assert_eq!(one, two, "{}", measured.name);
+    }
+}
+
+#[test]
+fn a_sheets_table_and_the_same_by_hand() {
+    let mut lines_met = 0;
+    for seed in 0..1000 {
+        let mut chance = Chance::new(seed);
+        let contents = contents(&random::accepted_sheet(&mut chance)).unwrap();
+        let n = contents.names.len() as u64;
+        let from_sheet = encode(&contents.records);
+        assert_eq!(from_sheet, encode(&random::with_lines(&mut chance, &contents.rules(), Lines::FromSheet)), "seed {seed}");
+        let by_hand = encode(&random::with_lines(&mut chance, &contents.rules(), Lines::ByHand));
+        assert_eq!(said(n, &from_sheet, seed), said(n, &by_hand, seed), "seed {seed}");
+        lines_met += contents.records.len();
+    }
+    assert!(lines_met > 10_000, "{lines_met}");
+}
+
+#[test]
+fn the_place_of_a_complaint_tells_its_line() {
+    // A byte of a sheet by counting byte 10 before it.
+    let of_sheet = |sheet: &[u8]| contents(sheet).map_err(|refusal| (refusal.number, line_of(sheet, refusal.place as usize)));
+    assert_eq!(of_sheet(b"a\tb c\n-a\tb\na\n"), Err((7, 3)));
+    assert_eq!(of_sheet(b"a\tb c\n-a\tb#\na\n"), Err((10, 2)));
+    assert_eq!(of_sheet(b"a\tb c\n-a\tb\nc"), Err((10, 3)));
+    // A word of a table by the line after the head of its record.
+    let of_table = |words: &[u16]| {
+        let at = check(2, words).expect_err("a refusal").place as usize;
+        let line = random::line_places(words).into_iter().rfind(|line| line - 1 <= at);
+        words[line.expect("a record")]
+    };
+    assert_eq!(of_table(&[0, 7, 0, 1, 9, 1, 1, 4, 2, 11, 0]), 9);
+    assert_eq!(of_table(&[0, 7, 0, 1, 9, 65]), 9);
+    assert_eq!(of_table(&[0, 7, 0, 0, 9, 0]), 9);
+}
