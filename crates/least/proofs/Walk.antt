@@ -66,6 +66,10 @@ group-fits t at (suc l) k h lt ek = go (drop at t) refl h
         let kx : x ≤ length ws = w .0 in
         omega arith
 
+-- where a group is to come, its length stands
+pub group-inside : (t : List ℕ) (at left : ℕ) → WholeGroups left (drop at t) → 0 < left → at < length t
+group-inside t at left h lt = omega (arith, group-fits t at left _ h lt refl)
+
 pub body-goes-on : (S : ℕ → Bool) (t : List ℕ) (at left k : ℕ) (fires fires′ : Bool)
     → WholeGroups left (drop at t) → 0 < left → k ≡ getD t at 0
     → fires′ ≡ (fires || wholly S (take k (drop (literalsAt at) t))) → Turned S t at left fires (literalsAt at + k) fires′

@@ -25,7 +25,7 @@ fn group_in(table: &[u16], set: &[u64], at: usize, k: usize) -> bool
 {
     let mut i: usize = 0;
     while i < k {
-        if bits::has(set, words::word(table, at + i)) {
+        if bits::has(set, words::word_inside(table, at + i)) {
             i += 1;
         } else {
             return false;
@@ -55,7 +55,7 @@ fn read_body(table: &[u16], set: &[u64], first: usize, m: usize, fired: bool) ->
     let mut left = m;
     let mut fires = fired;
     while 0 < left {
-        let k = words::word(table, at);
+        let k = words::word_inside(table, at);
         fires = fires_with(table, set, at + words::LITERALS, k, fires);
         at = at + words::LITERALS + k;
         left -= 1;
@@ -71,7 +71,7 @@ fn skip_groups(table: &[u16], first: usize, m: usize) -> usize
     let mut at = first;
     let mut left = m;
     while 0 < left {
-        let k = words::word(table, at);
+        let k = words::word_inside(table, at);
         at = at + words::LITERALS + k;
         left -= 1;
     }
@@ -101,7 +101,7 @@ fn fires_at(table: &[u16], set: &[u64], at: usize) -> Body
     requires { ⌜ (bodyAt at ≤ length (now table)) × WholeGroups (groupsIn (now table) at) (bodyFrom (now table) at) ⌝ }
     ensures { λ r. ⌜ FiresAt (member (now (set .entry))) (now (table .entry)) at (r .fires) (r .next) ⌝ }
 {
-    let m = words::word(table, at + words::GROUPS);
+    let m = words::word_inside(table, at + words::GROUPS);
     read_body(table, set, at + words::BODY, m, is_fact(m))
 }
 
@@ -110,7 +110,7 @@ fn skip_record(table: &[u16], at: usize) -> usize
     requires { ⌜ (bodyAt at ≤ length (now table)) × WholeGroups (groupsIn (now table) at) (bodyFrom (now table) at) ⌝ }
     ensures { λ r. ⌜ GroupsSkipped (now (table .entry)) (bodyAt at) (groupsIn (now (table .entry)) at) r ⌝ }
 {
-    let groups = words::word(table, at + words::GROUPS);
+    let groups = words::word_inside(table, at + words::GROUPS);
     skip_groups(table, at + words::BODY, groups)
 }
 
@@ -125,7 +125,7 @@ fn pass_record(table: &[u16], set: &mut [u64], marks: &[u64], at: usize) -> Step
     ensures { λ r. ⌜ Moved (member (now (marks .entry))) (now (table .entry)) at (now (set .entry)) (r .next) (r .changed) (now (set .exit)) ⌝ }
     ensures { λ r. ⌜ at < r .next ⌝ }
 {
-    let head = words::word(table, at);
+    let head = words::word_inside(table, at);
     if skips_head(set, marks, head) {
         let next = skip_record(table, at);
         return Step {

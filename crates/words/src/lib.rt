@@ -1,7 +1,7 @@
 use refusal::Checked;
 ghost use mathlib.Core.Path.{_≡_};
 ghost use Prim.Native.Nat.{_<_, _≤_};
-ghost use lib.ListN.{getD};
+ghost use lib.ListN.{length, getD};
 ghost use Rattle.limits.specs.Limits.{mostAtoms};
 ghost use Rattle.bits.specs.Sets.{member};
 ghost use Rattle.refusal.specs.Numbers.{refusal};
@@ -29,13 +29,22 @@ pub const LITERALS: usize = 1;
 
 pub const ONE_LITERAL: usize = 2;
 
+// The word at `i`, inside the table: whoever knows that reads it without asking again.
+pub fn word_inside(table: &[u16], i: usize) -> usize
+    requires { ⌜ i < length (now table) ⌝ }
+    ensures { λ r. ⌜ r ≡ getD (now (table .entry)) i 0 ⌝ }
+    ensures { λ r. ⌜ r < 65536 ⌝ }
+{
+    table[i] as usize
+}
+
 // The word at `i`, 0 past the end.
 pub fn word(table: &[u16], i: usize) -> usize
     ensures { λ r. ⌜ r ≡ getD (now (table .entry)) i 0 ⌝ }
     ensures { λ r. ⌜ r < 65536 ⌝ }
 {
     if i < table.len() {
-        table[i] as usize
+        word_inside(table, i)
     } else {
         0
     }

@@ -22,11 +22,11 @@ loop-holds : tie.Need-loop-holds Inv-loop μ-loop
 loop-holds c =
     (omega arith, rw (sub-zero, add-zero))
 
-add-word : tie.Need-add-word Inv-loop μ-loop
-add-word c = search needs
+add-word-inside : tie.Need-add-word-inside Inv-loop μ-loop
+add-word-inside c = search needs
 
-word-requires : tie.Need-word-requires Inv-loop μ-loop
-word-requires c κs = search needs
+word-inside-requires : tie.Need-word-inside-requires Inv-loop μ-loop
+word-inside-requires c κs = search needs
 
 has-requires : tie.Need-has-requires Inv-loop μ-loop
 has-requires c κs = search needs
@@ -43,7 +43,7 @@ loop-again c =
     let at-loop = c .before .before .before .before .loop in (
       omega arith,
       group-goes-on _ _ _ _ _ _ _ (entry .pre) (c .before .before .before .loop-test .taken)
-          (c .before .before .word .ensures .0) (c .before .has .ensures) (c .if1 .taken) (at-loop .inv .1),
+          (c .before .before .word-inside .ensures .0) (c .before .has .ensures) (c .if1 .taken) (at-loop .inv .1),
     )
 
 returns : tie.Need-returns Inv-loop μ-loop
@@ -51,7 +51,7 @@ returns c =
     let entry = c .before .before .before .before .before .before .before in
     let at-loop = c .before .before .before .before .loop in
     group-stops _ _ _ _ _ _ _ (entry .pre) (c .before .before .before .loop-test .taken)
-    (c .before .before .word .ensures .0) (c .before .has .ensures) (c .if1 .left) (at-loop .inv .1)
+    (c .before .before .word-inside .ensures .0) (c .before .has .ensures) (c .if1 .left) (at-loop .inv .1)
 
 returns-2 : tie.Need-returns-2 Inv-loop μ-loop
 returns-2 c =
@@ -64,8 +64,8 @@ group-in-spec =
     Inv-loop
     μ-loop
     loop-holds
-    add-word
-    word-requires
+    add-word-inside
+    word-inside-requires
     has-requires
     add-i
     loop-less

@@ -7,8 +7,8 @@ use Rattle.least.proofs.Passing.{here, skipped-there, decided-there, mo
 use Rattle.least.proofs.pass_record.Statement.{statement}
 use Rattle.least.proofs.pass_record.Tie as tie
 
-word-requires : tie.Need-word-requires
-word-requires c κs = search needs
+word-inside-requires : tie.Need-word-inside-requires
+word-inside-requires c κs = search needs
 
 skips-head-requires : tie.Need-skips-head-requires
 skips-head-requires c κs = search needs
@@ -25,12 +25,12 @@ same-length c = search needs
 returns : tie.Need-returns
 returns c =
     let entry = c .before .before .before .before .before .before .before .before in
-    let at-word = c .before .before .before .before .word in
+    let at-word-inside = c .before .before .before .before .word-inside in
     let d = skipped-there (member (entry .args .marks .now)) (member (entry .args .set .now)) (entry .args .table .now)
-    (entry .args .at) (at-word .result) (c .before .before .skips-head .result) (c .skip-record .result)
-    (at-word .ensures .0) (c .before .before .skips-head .ensures) (c .before .if1 .taken) (c .skip-record .ensures) in (
+    (entry .args .at) (at-word-inside .result) (c .before .before .skips-head .result) (c .skip-record .result)
+    (at-word-inside .ensures .0) (c .before .before .skips-head .ensures) (c .before .if1 .taken) (c .skip-record .ensures) in (
       moved-leaving (member (entry .args .marks .now)) (entry .args .table .now) (entry .args .at) (entry .args .set .now) false
-          (at-word .result) (c .skip-record .result) (entry .pre .1) (entry .pre .2) d refl,
+          (at-word-inside .result) (c .skip-record .result) (entry .pre .1) (entry .pre .2) d refl,
       omega (arith, d .further),
     )
 
@@ -49,16 +49,16 @@ same-length-2 c = search needs
 returns-2 : tie.Need-returns-2
 returns-2 c =
     let entry = c .before .before .before .before .before .before .before .before .before .before .before .before .before .before in
-    let at-word = c .before .before .before .before .before .before .before .before .before .before .word in
+    let at-word-inside = c .before .before .before .before .before .before .before .before .before .before .word-inside in
     let at-skips-head = c .before .before .before .before .before .before .before .before .skips-head in
     let at-if1 = c .before .before .before .before .before .before .before .if1 in
     let at-fires-at = c .before .before .before .before .before .fires-at in
     let at-if2 = c .before .before .before .before .if2 in
     let d = decided-there (member (entry .args .marks .now)) (member (entry .args .set .now)) (entry .args .table .now)
-    (entry .args .at) (at-word .result) (at-skips-head .result) (at-fires-at .result .fires)
-    (at-fires-at .result .next) (at-word .ensures .0) (at-skips-head .ensures) (at-if1 .left) (at-fires-at .ensures) in (
+    (entry .args .at) (at-word-inside .result) (at-skips-head .result) (at-fires-at .result .fires)
+    (at-fires-at .result .next) (at-word-inside .ensures .0) (at-skips-head .ensures) (at-if1 .left) (at-fires-at .ensures) in (
       moved-adding (member (entry .args .marks .now)) (entry .args .table .now) (entry .args .at) (entry .args .set .now) (at-fires-at .result .fires)
-          (at-word .result) (at-fires-at .result .next) _ (entry .pre .0) (entry .pre .1) (entry .pre .2) d (at-if2 .taken) (c .before .before .put .ensures),
+          _ (at-fires-at .result .next) _ (entry .pre .0) (entry .pre .1) (entry .pre .2) d (at-if2 .taken) (c .before .before .put .ensures),
       omega (arith, d .further),
     )
 
@@ -68,13 +68,13 @@ same-length-3 c = search needs
 returns-3 : tie.Need-returns-3
 returns-3 c =
     let entry = c .before .before .before .before .before .before .before .before .before .before in
-    let at-word = c .before .before .before .before .before .before .word in
+    let at-word-inside = c .before .before .before .before .before .before .word-inside in
     let at-skips-head = c .before .before .before .before .skips-head in
     let d = decided-there (member (entry .args .marks .now)) (member (entry .args .set .now)) (entry .args .table .now) (entry .args .at)
-    (at-word .result) (at-skips-head .result) (c .before .fires-at .result .fires) (c .before .fires-at .result .next)
-    (at-word .ensures .0) (at-skips-head .ensures) (c .before .before .before .if1 .left) (c .before .fires-at .ensures) in (
+    (at-word-inside .result) (at-skips-head .result) (c .before .fires-at .result .fires) (c .before .fires-at .result .next)
+    (at-word-inside .ensures .0) (at-skips-head .ensures) (c .before .before .before .if1 .left) (c .before .fires-at .ensures) in (
       moved-leaving (member (entry .args .marks .now)) (entry .args .table .now) (entry .args .at) (entry .args .set .now) (c .before .fires-at .result .fires)
-          (at-word .result) (c .before .fires-at .result .next) (entry .pre .1) (entry .pre .2) d (c .if2 .left),
+          (at-word-inside .result) (c .before .fires-at .result .next) (entry .pre .1) (entry .pre .2) d (c .if2 .left),
       omega (arith, d .further),
     )
 
@@ -82,7 +82,7 @@ pub pass-record-spec : {M : Type 1} → statement M
 pass-record-spec =
     tie.close
     (tie.spec
-    word-requires
+    word-inside-requires
     skips-head-requires
     skip-record-requires
     same-length

@@ -8,7 +8,7 @@ use Rattle.bits.specs.Sets.{member}
 use Rattle.words.specs.RecordAt.{WholeGroups}
 use Rattle.words.specs.Layout.{takeGroups, dropGroups}
 use Rattle.paper.specs.Fires.{someWholly}
-use Rattle.least.proofs.Walk.{group-fits, body-goes-on, body-ends}
+use Rattle.least.proofs.Walk.{group-inside, group-fits, body-goes-on, body-ends}
 use Rattle.least.proofs.read_body.Statement.{statement}
 use Rattle.least.proofs.read_body.Tie as tie
 
@@ -26,8 +26,9 @@ loop-holds : tie.Need-loop-holds Inv-loop μ-loop
 loop-holds c =
     (c .before .before .pre .0, omega arith, c .before .before .pre .1, refl, refl)
 
-word-requires : tie.Need-word-requires Inv-loop μ-loop
-word-requires c κs = search needs
+word-inside-requires : tie.Need-word-inside-requires Inv-loop μ-loop
+word-inside-requires c κs =
+    group-inside _ (c .before .loop .at) (c .before .loop .left) (c .before .loop .inv .2) (c .loop-test .taken)
 
 add-fires-with : tie.Need-add-fires-with Inv-loop μ-loop
 add-fires-with c =
@@ -35,15 +36,14 @@ add-fires-with c =
     let at-loop = c .before .before .loop in
     omega (
       arith,
-      group-fits
-          (entry .args .table .now) (at-loop .at) (at-loop .left) (c .word .result) (at-loop .inv .2) (c .before .loop-test .taken) (c .word .ensures .0),
+      group-fits (entry .args .table .now) (at-loop .at) (at-loop .left) _ (at-loop .inv .2) (c .before .loop-test .taken) (c .word-inside .ensures .0),
     )
 
 fires-with-requires : tie.Need-fires-with-requires Inv-loop μ-loop
 fires-with-requires c κs =
     let entry = c .before .before .before .before .before in
     let at-loop = c .before .before .loop in
-    group-fits (entry .args .table .now) (at-loop .at) (at-loop .left) (c .word .result) (at-loop .inv .2) (c .before .loop-test .taken) (c .word .ensures .0)
+    group-fits (entry .args .table .now) (at-loop .at) (at-loop .left) _ (at-loop .inv .2) (c .before .loop-test .taken) (c .word-inside .ensures .0)
 
 add-at : tie.Need-add-at Inv-loop μ-loop
 add-at c =
@@ -51,8 +51,8 @@ add-at c =
     let at-loop = c .before .before .before .loop in
     omega (
       arith,
-      group-fits (entry .args .table .now) (at-loop .at) (at-loop .left) (c .before .word .result)
-          (at-loop .inv .2) (c .before .before .loop-test .taken) (c .before .word .ensures .0),
+      group-fits (entry .args .table .now) (at-loop .at) (at-loop .left) _
+          (at-loop .inv .2) (c .before .before .loop-test .taken) (c .before .word-inside .ensures .0),
     )
 
 add-at-2 : tie.Need-add-at-2 Inv-loop μ-loop
@@ -61,8 +61,8 @@ add-at-2 c =
     let at-loop = c .before .before .before .loop in
     omega (
       arith,
-      group-fits (entry .args .table .now) (at-loop .at) (at-loop .left) (c .before .word .result)
-          (at-loop .inv .2) (c .before .before .loop-test .taken) (c .before .word .ensures .0),
+      group-fits (entry .args .table .now) (at-loop .at) (at-loop .left) _
+          (at-loop .inv .2) (c .before .before .loop-test .taken) (c .before .word-inside .ensures .0),
     )
 
 sub-left : tie.Need-sub-left Inv-loop μ-loop
@@ -75,8 +75,8 @@ loop-again : tie.Need-loop-again Inv-loop μ-loop
 loop-again c =
     let entry = c .before .before .before .before .before .before in
     let at-loop = c .before .before .before .loop in
-    let q = body-goes-on (member (entry .args .set .now)) (entry .args .table .now) (at-loop .at) (at-loop .left) (c .before .word .result) (at-loop .fires)
-    (c .fires-with .result) (at-loop .inv .2) (c .before .before .loop-test .taken) (c .before .word .ensures .0) (c .fires-with .ensures) in
+    let q = body-goes-on (member (entry .args .set .now)) (entry .args .table .now) (at-loop .at) (at-loop .left) _ (at-loop .fires)
+    (c .fires-with .result) (at-loop .inv .2) (c .before .before .loop-test .taken) (c .before .word-inside .ensures .0) (c .fires-with .ensures) in
     (q .inside, omega arith, q .whole, q .fires-same ∙ at-loop .inv .3, q .after-same ∙ at-loop .inv .4)
 
 returns : tie.Need-returns Inv-loop μ-loop
@@ -92,7 +92,7 @@ read-body-spec =
     Inv-loop
     μ-loop
     loop-holds
-    word-requires
+    word-inside-requires
     add-fires-with
     fires-with-requires
     add-at

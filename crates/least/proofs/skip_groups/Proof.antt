@@ -6,7 +6,7 @@ use mathlib.Core.Bool.{true, false}
 use lib.ListN.{length, drop}
 use Rattle.words.specs.RecordAt.{WholeGroups}
 use Rattle.words.specs.Layout.{dropGroups}
-use Rattle.least.proofs.Walk.{group-fits, body-goes-on, groups-end}
+use Rattle.least.proofs.Walk.{group-inside, group-fits, body-goes-on, groups-end}
 use Rattle.least.proofs.skip_groups.Statement.{statement}
 use Rattle.least.proofs.skip_groups.Tie as tie
 
@@ -22,8 +22,9 @@ loop-holds : tie.Need-loop-holds Inv-loop μ-loop
 loop-holds c =
     (c .before .pre .0, omega arith, c .before .pre .1, refl)
 
-word-requires : tie.Need-word-requires Inv-loop μ-loop
-word-requires c κs = search needs
+word-inside-requires : tie.Need-word-inside-requires Inv-loop μ-loop
+word-inside-requires c κs =
+    group-inside _ (c .before .loop .at) (c .before .loop .left) (c .before .loop .inv .2) (c .loop-test .taken)
 
 add-at : tie.Need-add-at Inv-loop μ-loop
 add-at c =
@@ -31,8 +32,7 @@ add-at c =
     let at-loop = c .before .before .loop in
     omega (
       arith,
-      group-fits
-          (entry .args .table .now) (at-loop .at) (at-loop .left) (c .word .result) (at-loop .inv .2) (c .before .loop-test .taken) (c .word .ensures .0),
+      group-fits (entry .args .table .now) (at-loop .at) (at-loop .left) _ (at-loop .inv .2) (c .before .loop-test .taken) (c .word-inside .ensures .0),
     )
 
 add-at-2 : tie.Need-add-at-2 Inv-loop μ-loop
@@ -41,8 +41,7 @@ add-at-2 c =
     let at-loop = c .before .before .loop in
     omega (
       arith,
-      group-fits
-          (entry .args .table .now) (at-loop .at) (at-loop .left) (c .word .result) (at-loop .inv .2) (c .before .loop-test .taken) (c .word .ensures .0),
+      group-fits (entry .args .table .now) (at-loop .at) (at-loop .left) _ (at-loop .inv .2) (c .before .loop-test .taken) (c .word-inside .ensures .0),
     )
 
 sub-left : tie.Need-sub-left Inv-loop μ-loop
@@ -55,8 +54,8 @@ loop-again : tie.Need-loop-again Inv-loop μ-loop
 loop-again c =
     let entry = c .before .before .before .before in
     let at-loop = c .before .before .loop in
-    let q = body-goes-on (λ l. false) (entry .args .table .now) (at-loop .at) (at-loop .left) (c .word .result) true true
-    (at-loop .inv .2) (c .before .loop-test .taken) (c .word .ensures .0) refl in
+    let q = body-goes-on (λ l. false) (entry .args .table .now) (at-loop .at) (at-loop .left) (c .word-inside .result) true true
+    (at-loop .inv .2) (c .before .loop-test .taken) (c .word-inside .ensures .0) refl in
     (q .inside, omega arith, q .whole, q .after-same ∙ at-loop .inv .3)
 
 returns : tie.Need-returns Inv-loop μ-loop
@@ -72,7 +71,7 @@ skip-groups-spec =
     Inv-loop
     μ-loop
     loop-holds
-    word-requires
+    word-inside-requires
     add-at
     add-at-2
     sub-left

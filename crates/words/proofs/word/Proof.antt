@@ -1,25 +1,18 @@
-use mathlib.Core.Path.{refl, sym}
-use native.Mathlib.Omega.{arith}
+use mathlib.Core.Path.{sym}
 use lib.Dec.{lit<}
 use lib.ListN.{List·getD-eq-default}
 use borrow.Author.Needs.{needs}
 use Rattle.words.proofs.word.Statement.{statement}
 use Rattle.words.proofs.word.Tie as tie
 
-mul-result : tie.Need-mul-result
-mul-result c = search needs
-
-shared-slice-read-result : tie.Need-shared-slice-read-result
-shared-slice-read-result c = search needs
-
-cast-result : tie.Need-cast-result
-cast-result c = omega (arith, c .shared-slice-known .given (c .before .before .args .i))
+word-inside-requires : tie.Need-word-inside-requires
+word-inside-requires c κs = search needs
 
 returns : tie.Need-returns
-returns c = (refl, omega (arith, c .shared-slice-known .given (c .before .before .args .i)))
+returns c = c .word-inside .ensures
 
 returns-2 : tie.Need-returns-2
-returns-2 c = (sym (List·getD-eq-default (c .before .args .table .now) 0 (c .if1 .left)), lit< tt)
+returns-2 c = (sym (List·getD-eq-default (c .before .before .args .table .now) 0 (c .if1 .left)), lit< tt)
 
 pub word-spec : {M : Type 1} → statement M
-word-spec = tie.close (tie.spec mul-result shared-slice-read-result cast-result returns returns-2)
+word-spec = tie.close (tie.spec word-inside-requires returns returns-2)
