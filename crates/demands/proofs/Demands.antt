@@ -2,7 +2,7 @@
 -- Assumes nothing.
 use mathlib.Core.Bool.{true, false}
 use mathlib.Core.List.{List, [], _∷_, _++_}
-use mathlib.Core.Logic.{_↔_, _⊎_, ⊎-elim}
+use mathlib.Core.Logic.{_↔_, _⊎_, ⊎-elim, Iff·trans}
 use mathlib.Core.Path.{_≡_, refl, sym, _∙_, subst⁻¹}
 use Prim.Native.Nat.{ℕ, _+_, _≤_, _<_, _/_}
 use lib.Dec.{leb}
@@ -10,11 +10,12 @@ use lib.ListN.{length, getD, take, drop}
 use Rattle.limits.specs.Limits.{mostAtoms, mostLine}
 use Rattle.refusal.specs.declared.Refusal.{Refusal}
 use Rattle.refusal.specs.Numbers.{too-many-atoms, not-settled, text-room-too-small, not-a-truth-code}
-use Rattle.paper.specs.Table1.{Value, code, _and_, _or_, not′, _implies_}
+use Rattle.paper.specs.Table1.{Value, 𝐢, code, _and_, _or_, not′, _implies_}
 use Rattle.paper.specs.Rules.{positive}
 use Rattle.sets.specs.Sets.{_∈_, count}
 use Rattle.paper.specs.Definitions.{Interpretation, value, Smallest, SmallestWellSupported}
-use Rattle.paper.specs.Marking.{Marked, Unmarked, CanBeMarked, Settled, IsHeld, settledValue, inconsistent}
+use Rattle.paper.specs.Marking.{Marked, Unmarked, CanBeMarked, Settled, IsHeld, Conflict, settledValue, inconsistent}
+use Rattle.paper.proofs.Theorems as paper
 use Rattle.paper.proofs.Theorems.{smallest-by-test, smallest-exists}
 use Rattle.refusal.specs.declared.Numbered.{Numbered}
 use Rattle.refusal.specs.declared.Numbered.the-variants.{Number, Refused as NoCode}
@@ -34,6 +35,7 @@ use Rattle.picks.specs.Faults.{pickFault, settledFault, reportFault}
 use Rattle.records.specs.declared.MarkRecord.{MarkRecord}
 use Rattle.picks.specs.declared.PickAnswer.{PickAnswer}
 use Rattle.refusal.specs.declared.Decided.{Decided}
+use Rattle.refusal.specs.Questions.{QuestionAllows}
 use Rattle.picks.specs.Entries.{PickAllows, SettledAllows, ReportAllows}
 use Rattle.values.specs.Values.{written}
 use Rattle.picks.specs.Traces.{Picks, PickPasses}
@@ -41,11 +43,15 @@ use Rattle.records.proofs.Laws as records
 use Rattle.picks.proofs.Determined as picks
 use Rattle.picks.proofs.Demand3 as rooms
 use Rattle.picks.proofs.OnlyLines.{pick-alike, settled-alike, report-alike}
+use Rattle.refusal.proofs.Questions.{question-determined, yes-exactly-if}
+use Rattle.conflict.specs.Conflict.{ConflictAllows}
+use Rattle.conflict.proofs.OnlyLines.{conflict-alike}
 use Rattle.evaluation.specs.Evaluation.{evaluationFault, EvaluationAllows}
 use Rattle.evaluation.proofs.Evaluated as evaluated
 use Rattle.evaluation.proofs.Laws.{evaluation-determined}
 use Rattle.evaluation.proofs.OnlyLines.{evaluation-alike}
 use Rattle.demands.proofs.Report.{evaluation-equals-report}
+use Rattle.demands.proofs.Conflict.{evaluation-codes-tell, host-codes-tell, answers-tell}
 use Rattle.reader.specs.declared.Reading.{Reading}
 use Rattle.reader.specs.declared.Reading.the-variants.{End, Literal}
 use Rattle.reader.specs.declared.SheetLiteral.{SheetLiteral}
@@ -69,8 +75,10 @@ use Rattle.sheets.proofs.Laws.{sheet-one-rule, sheet-determined, Leaves, accept
 use Rattle.sheets.proofs.Lines.{as-many-lines, line-of-atom, literal-has-line, lines-differ, as-many-lines-left, line-left, literal-has-line-left, names-left-apart, literal-has-name-left, name-left-is-written, head-has-record-left}
 use Rattle.host.specs.Bytes.{wordsIn, loneByte}
 use Rattle.host.specs.Evaluation.{hostFault, packed, HostEvaluation}
+use Rattle.host.specs.Conflict.{hostTableFault, HostConflict}
+use Rattle.host.proofs.Conflict as host
 use Rattle.host.proofs.Determined.{host-accepted, host-determined, host-answer-tells, zero-exactly-if-accepted}
-use Rattle.host.proofs.OnlyLines.{host-alike}
+use Rattle.host.proofs.OnlyLines.{host-alike, host-conflict-alike}
 use Rattle.hostsheet.specs.SheetBytes.{HostSheet, wordsOver, namesOver}
 use Rattle.hostsheet.proofs.Bounds.{answer-tells}
 use Rattle.hostsheet.proofs.Determined.{host-sheet-determined}
@@ -157,15 +165,15 @@ module _ (r : MarkRecord) (t : List ℕ) where
   settled-determined o o′ = picks.settled-determined r t o o′
 
   pub settled-refused : {f : Refusal} {answer : Decided} → settledFault r t ≡ Refused f → SettledAllows r t answer → answer ≡ Decided.Refused f
-  settled-refused e o = picks.settled-determined r t o (SettledAllows.refused e)
+  settled-refused e o = picks.settled-determined r t o (QuestionAllows.refused e)
 
   pub settled-yes : {answer : Decided} → settledFault r t ≡ Accepted
       → Settled (rulesOf t) (marksOf r) → SettledAllows r t answer → answer ≡ Decided.Yes
-  settled-yes e s o = picks.settled-determined r t o (SettledAllows.answers-yes e s)
+  settled-yes e s o = picks.settled-determined r t o (QuestionAllows.answers-yes e s)
 
   pub settled-no : {answer : Decided} → settledFault r t ≡ Accepted
       → (Settled (rulesOf t) (marksOf r) → ⊥) → SettledAllows r t answer → answer ≡ Decided.No
-  settled-no e n o = picks.settled-determined r t o (SettledAllows.answers-no e n)
+  settled-no e n o = picks.settled-determined r t o (QuestionAllows.answers-no e n)
 
   -- report: 1, 17, 2, 3, words, 18; a refusal alters nothing
   pub report-determined : (room : List ℕ) {x y : Checked} {room′ room″ : List ℕ}
@@ -198,6 +206,22 @@ pub count-counts : (r : MarkRecord) {answer : Numbered} → recordFault r ≡ Ac
     → CountAllows r answer → answer ≡ Numbered.Number (count mostAtoms (marksOf r))
 count-counts r e o = records.count-determined r o (CountAllows.counted e)
 
+-- the question of conflict: 1, 2, words; nothing is lent to be written
+pub conflict-determined : (N : ℕ) (t : List ℕ) {x y : Decided} → ConflictAllows N t x → ConflictAllows N t y → x ≡ y
+conflict-determined N t o o′ = question-determined o o′
+
+pub conflict-refused : (N : ℕ) (t : List ℕ) {f : Refusal} {answer : Decided} → tableCheck N t ≡ Refused f
+    → ConflictAllows N t answer → answer ≡ Decided.Refused f
+conflict-refused N t e o = question-determined o (QuestionAllows.refused e)
+
+pub conflict-yes : (N : ℕ) (t : List ℕ) {answer : Decided} → AcceptedTable N t
+    → Conflict (rulesOf t) → ConflictAllows N t answer → answer ≡ Decided.Yes
+conflict-yes N t e c o = question-determined o (QuestionAllows.answers-yes e c)
+
+pub conflict-no : (N : ℕ) (t : List ℕ) {answer : Decided} → AcceptedTable N t
+    → (Conflict (rulesOf t) → ⊥) → ConflictAllows N t answer → answer ≡ Decided.No
+conflict-no N t e n o = question-determined o (QuestionAllows.answers-no e n)
+
 -- evaluation: 1, 2, 3, words (and never 19); a refusal alters nothing
 pub evaluation-allows-one : (N : ℕ) (t room : List ℕ) {x y : Checked} {room′ room″ : List ℕ}
     → EvaluationAllows N t room x room′ → EvaluationAllows N t room y room″
@@ -229,6 +253,22 @@ host-evaluation-tells = host-answer-tells
 pub host-evaluation-zero : (N : ℕ) (bytes room : List ℕ) {answer : ℕ} {room′ : List ℕ} → HostEvaluation N bytes room answer room′
     → (answer ≡ 0) ↔ (hostFault N (wordsIn bytes) (loneByte bytes) (length room) ≡ Accepted)
 host-evaluation-zero = zero-exactly-if-accepted
+
+-- the host's question of conflict: the same over bytes, then 4 for a lone last byte
+pub host-conflict-determined : (N : ℕ) (bytes : List ℕ) {x y : ℕ} → HostConflict N bytes x → HostConflict N bytes y → x ≡ y
+host-conflict-determined = host.host-conflict-determined
+
+pub host-conflict-refused : (N : ℕ) (bytes : List ℕ) {f : Refusal} {answer : ℕ}
+    → hostTableFault N (wordsIn bytes) (loneByte bytes) ≡ Refused f → HostConflict N bytes answer → answer ≡ packed f
+host-conflict-refused N bytes e o = host.host-conflict-determined N bytes o (HostConflict.answered (QuestionAllows.refused e))
+
+-- so an answer tells its cause: 0 that there is no conflict, 1 that there is one, else the fault that the order finds
+pub host-conflict-tells : (N : ℕ) (bytes : List ℕ) {answer : ℕ} → HostConflict N bytes answer
+    → ((hostTableFault N (wordsIn bytes) (loneByte bytes) ≡ Accepted) × (Conflict (rulesOf (wordsIn bytes)) → ⊥) × (answer ≡ 0))
+    ⊎ (((hostTableFault N (wordsIn bytes) (loneByte bytes) ≡ Accepted) × Conflict (rulesOf (wordsIn bytes)) × (answer ≡ 1))
+    ⊎ ((f : Refusal) × (hostTableFault N (wordsIn bytes) (loneByte bytes) ≡ Refused f)
+    × (answer ≡ packed f) × (1 ≤ f .number) × (f .place < 4294967296)))
+host-conflict-tells = host.conflict-answer-tells
 
 -- the sheet reader: only 8, 10 and 11, at every place; the same again after the end or a refusal; and it ends
 pub reader-determined : (s : List ℕ) (p : ℕ) (x y : Next) → x ≡ nextAt s p → y ≡ nextAt s p → x ≡ y
@@ -521,13 +561,47 @@ module _ (N : ℕ) (t u : List ℕ) (accepted : AcceptedTable N t) (accepted′ 
       → ReportAllows r t room x room′ → ReportAllows r u room y room″ → (x ≡ y) × (room′ ≡ room″)
   report-without-lines r = report-alike r t u alike
 
+  pub conflict-without-lines : (M : ℕ) {x y : Decided} → ConflictAllows M t x → ConflictAllows M u y → x ≡ y
+  conflict-without-lines = conflict-alike t u alike
+
   pub evaluation-without-lines : (M : ℕ) (room : List ℕ) {x y : Checked} {room′ room″ : List ℕ}
       → EvaluationAllows M t room x room′ → EvaluationAllows M u room y room″ → (x ≡ y) × (room′ ≡ room″)
   evaluation-without-lines M = evaluation-alike M t u alike
 
 -- and the host's, over bytes with or without a lone last one
-pub host-evaluation-without-lines : (N : ℕ) (b c : List ℕ) → AcceptedTable N (wordsIn b) → AcceptedTable N (wordsIn c)
-    → OnlyLinesDiffer (wordsIn b) (wordsIn c) → loneByte b ≡ loneByte c → (M : ℕ) (room : List ℕ) {x y : ℕ} {room′ room″ : List ℕ}
-    → HostEvaluation M b room x room′ → HostEvaluation M c room y room″ → (x ≡ y) × (room′ ≡ room″)
-host-evaluation-without-lines N b c accepted accepted′ only lone M =
-    host-alike M b c (only-lines-alike N (wordsIn b) (wordsIn c) accepted accepted′ only) lone
+module _ (N : ℕ) (b c : List ℕ) (accepted : AcceptedTable N (wordsIn b)) (accepted′ : AcceptedTable N (wordsIn c))
+    (only : OnlyLinesDiffer (wordsIn b) (wordsIn c)) (lone : loneByte b ≡ loneByte c) where
+  alike-bytes : Alike (wordsIn b) (wordsIn c)
+  alike-bytes = only-lines-alike N (wordsIn b) (wordsIn c) accepted accepted′ only
+
+  pub host-evaluation-without-lines : (M : ℕ) (room : List ℕ) {x y : ℕ} {room′ room″ : List ℕ}
+      → HostEvaluation M b room x room′ → HostEvaluation M c room y room″ → (x ≡ y) × (room′ ≡ room″)
+  host-evaluation-without-lines M = host-alike M b c alike-bytes lone
+
+  pub host-conflict-without-lines : (M : ℕ) {x y : ℕ} → HostConflict M b x → HostConflict M c y → x ≡ y
+  host-conflict-without-lines M = host-conflict-alike M b c alike-bytes lone
+
+-- ---- Document 02, W3. A quick yes or no on conflict: full evaluation agrees.
+
+module _ (N : ℕ) (t : List ℕ) {answer : Decided} (o : ConflictAllows N t answer) where
+  -- yes exactly if the smallest well-supported model, for orders of any kind, has an inconsistent atom
+  pub conflict-exactly-if-inconsistent : AcceptedTable N t → (I : Interpretation) → SmallestWellSupported (rulesOf t) I
+      → (answer ≡ Decided.Yes) ↔ ((a : ℕ) × (value I (positive a) ≡ 𝐢))
+  conflict-exactly-if-inconsistent accepted I smallest =
+      Iff·trans (yes-exactly-if accepted o) (paper.conflict-exactly-if-inconsistent (rulesOf t) (accepted-one-rule N t accepted) I smallest)
+
+  -- yes exactly if evaluation of the same table writes code 2 for some atom
+  pub conflict-exactly-if-a-code-is-2 : (room : List ℕ) {room′ : List ℕ} → EvaluationAllows N t room Checked.Accepted room′
+      → (answer ≡ Decided.Yes) ↔ ((a : ℕ) × (a < N) × (getD room′ a 0 ≡ 2))
+  conflict-exactly-if-a-code-is-2 room e = evaluation-codes-tell N t room o e
+
+  -- yes exactly if a fresh record is not settled; no and refusals are the settled question's yes and refusals
+  pub conflict-exactly-if-not-settled : {settled : Decided} → SettledAllows (noMarksFor N) t settled
+      → ((answer ≡ Decided.Yes) ↔ (settled ≡ Decided.No)) × ((answer ≡ Decided.No) ↔ (settled ≡ Decided.Yes))
+      × ((f : Refusal) → (answer ≡ Decided.Refused f) ↔ (settled ≡ Decided.Refused f))
+  conflict-exactly-if-not-settled s = answers-tell N t o s
+
+-- and the host's: 1 exactly if its evaluation of the same bytes writes code 2 for some atom
+pub host-conflict-exactly-if-a-code-is-2 : (N : ℕ) (bytes room : List ℕ) {answer : ℕ} {room′ : List ℕ}
+    → HostConflict N bytes answer → HostEvaluation N bytes room 0 room′ → (answer ≡ 1) ↔ ((a : ℕ) × (a < N) × (getD room′ a 0 ≡ 2))
+host-conflict-exactly-if-a-code-is-2 = host-codes-tell

@@ -1,3 +1,4 @@
--- One page: the three demands, about the public entries. Report serves it.
+-- One page: the three demands, about the public entries. Report and Conflict serve it.
 mod Report
+mod Conflict
 pub mod Demands

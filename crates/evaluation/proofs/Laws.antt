@@ -1,22 +1,20 @@
 -- What an outcome of evaluation tells: 19 never comes, and two allowed outcomes are equal. Assumes nothing.
-use mathlib.Core.Bool.{Bool, true, false}
 use mathlib.Core.List.{List}
 use mathlib.Core.Path.{_≡_, refl, sym, ap, _∙_}
 use Prim.Native.Nat.{ℕ}
 use native.Mathlib.Omega.{arith}
 use lib.Dec.{leb}
 use lib.ListN.{length}
-use borrow.Author.Tests.{leb-true}
 use Rattle.refusal.specs.declared.Refusal.{Refusal}
 use Rattle.refusal.specs.Numbers.{too-many-atoms, table-too-long, value-room-too-small}
 use Rattle.refusal.specs.declared.Checked.{Checked}
 use Rattle.refusal.specs.declared.Checked.the-variants.{Accepted, Refused}
-use Rattle.refusal.specs.Checks.{asking, orElse}
+use Rattle.refusal.specs.Checks.{orElse}
 use Rattle.words.specs.Check.{tableCheck, tableTooLong, tooManyAtoms}
 use Rattle.words.specs.Layout.{rulesOf}
 use Rattle.refusal.proofs.Laws.{refused≢accepted}
 use Rattle.words.proofs.Laws.{accepted-heads}
-use Rattle.refusal.proofs.Places.{PlacesTo, asking-to, orElse-to, to-more}
+use Rattle.refusal.proofs.Places.{PlacesTo, asking-to, orElse-to}
 use Rattle.words.proofs.Bounds.{check-within}
 use Rattle.paper.specs.Rules.{positive}
 use Rattle.paper.specs.Definitions.{Interpretation, value, Smallest}
@@ -61,17 +59,13 @@ evaluation-determined N t room (evaluated e I s) (never-settles e′ A m n) = ab
 evaluation-determined N t room (evaluated e I s) (evaluated e′ J s′) =
     (refl, ap (λ (K : Interpretation). written (λ a. value K (positive a)) N room) (smallest-unique (rulesOf t) I J s s′))
 
--- a refusal's number and place have bounds: a longer table is refused at 0
+-- a refusal's number and place have bounds
 pub evaluation-within : (N : ℕ) (t : List ℕ) (room : ℕ) → PlacesTo 8192 (evaluationFault N t room)
 unfolding evaluationFault
 evaluation-within N t room =
     orElse-to 8192 (tooManyAtoms N) (orElse (tableTooLong t) (orElse (roomTooSmall N room) (tableCheck N t)))
-    (asking-to 8192 (leb N 512) too-many-atoms Accepted (omega arith, omega arith, omega arith) tt) (go (leb (length t) 8192) refl)
-  where
-    go : (short : Bool) → leb (length t) 8192 ≡ short
-        → PlacesTo 8192 (orElse (asking short table-too-long Accepted) (orElse (roomTooSmall N room) (tableCheck N t)))
-    go false p = (omega arith, omega arith, omega arith)
-    go true p =
-        orElse-to 8192
-        (roomTooSmall N room) (tableCheck N t) (asking-to 8192 (leb N room) value-room-too-small Accepted (omega arith, omega arith, omega arith) tt)
-        (to-more (length t) 8192 (leb-true (length t) 8192 p) (tableCheck N t) (check-within N t))
+    (asking-to 8192 (leb N 512) too-many-atoms Accepted (omega arith, omega arith, omega arith) tt)
+    (orElse-to 8192 (tableTooLong t) (orElse (roomTooSmall N room) (tableCheck N t))
+    (asking-to 8192 (leb (length t) 8192) table-too-long Accepted (omega arith, omega arith, omega arith) tt)
+    (orElse-to 8192 (roomTooSmall N room) (tableCheck N t)
+    (asking-to 8192 (leb N room) value-room-too-small Accepted (omega arith, omega arith, omega arith) tt) (check-within N t)))

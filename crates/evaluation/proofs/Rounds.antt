@@ -11,13 +11,14 @@ use borrow.Author.Tests.{ne-eqb}
 use Rattle.paper.specs.Rules.{Rule, HeadsBelow}
 use Rattle.paper.specs.Marking.{CanBeMarked, Settled, Marking, one-more, IsHeld}
 use Rattle.sets.specs.Sets.{_with_, count}
+use Rattle.sets.specs.Some.{someBelow}
 use Rattle.paper.proofs.Leasts.{can-be-marked-mono, held-mono}
 use Rattle.sets.proofs.Besides.{with-⊇}
 use Rattle.sets.proofs.Counting.{count-with, count≤}
 use Rattle.sets.proofs.Tests.{and-left, true→T}
 use Rattle.bits.specs.Sets.{member, putIn}
 use Rattle.bits.proofs.Laws.{member-putIn, length-putIn}
-use Rattle.marking.specs.Markable.{markable, markableBelow, conflicts}
+use Rattle.marking.specs.Markable.{markable, conflicts}
 use Rattle.marking.proofs.Markable.{markable-is, goes-on}
 use Rattle.evaluation.specs.Rounds.{markedOne, markedBelow, RoundOver, Begun, Settling, Round}
 
@@ -36,7 +37,7 @@ module _ (s : List ℕ) (H C : ℕ → Bool) (len : length s ≡ 8) where
   one a = markable (member s) H C a
 
   abbrev before : ℕ → Bool
-  before a = markableBelow (member s) H C a
+  before a = someBelow (markable (member s) H C) a
 
   abbrev so-far : ℕ → List ℕ
   so-far a = markedBelow s H C a
@@ -80,7 +81,7 @@ module _ (s : List ℕ) (H C : ℕ → Bool) (len : length s ≡ 8) where
         }
 
   looked : (n : ℕ) → n ≤ 512 → Looked s H C n (before n) (so-far n)
-  unfolding markableBelow markedBelow
+  unfolding someBelow markedBelow
   looked zero h =
       record {
         ahead = λ b h. refl;
@@ -95,7 +96,7 @@ module _ (s : List ℕ) (H C : ℕ → Bool) (len : length s ≡ 8) where
   -- a turn looks at one atom more: by the marks at hand it can be marked exactly if it could by those before the round
   pub turn : (s₁ s₂ : List ℕ) (a : ℕ) (any marked any′ : Bool) → a < 512 → RoundOver s H C a any s₁ → marked ≡ markable (member s₁) H C a
       → s₂ ≡ markedOne s₁ a marked → any′ ≡ (marked || any) → RoundOver s H C (a + 1) any′ s₂
-  unfolding markableBelow markedBelow
+  unfolding someBelow markedBelow
   turn s₁ s₂ a any marked any′ lt o e es ea =
       let here : member s₁ a ≡ member s a = ap (λ (x : List ℕ). member x a) (o .marks-are) ∙ looked a (omega arith) .ahead a (omega arith) in
       let same : marked ≡ one a = e ∙ ap (λ (b : Bool). not b && conflicts H C a) here in
@@ -109,7 +110,7 @@ module _ (s : List ℕ) (H C : ℕ → Bool) (len : length s ≡ 8) where
   over-looked n any s′ h o = rw (o .marks-are, o .any-is) (looked n h)
 
 pub round-begins : (s : List ℕ) (H C : ℕ → Bool) → RoundOver s H C 0 false s
-unfolding markableBelow markedBelow
+unfolding someBelow markedBelow
 round-begins s H C = record { marks-are = refl; any-is = refl }
 
 pub round-ends : (s s′ : List ℕ) (H C : ℕ → Bool) (a n : ℕ) (any : Bool)

@@ -8,8 +8,9 @@ use lib.ListN.{length}
 use Rattle.paper.specs.Rules.{Rule}
 use Rattle.paper.specs.Definitions.{Interpretation}
 use Rattle.paper.specs.Marking.{Held, Settled, Marking, IsHeld, IsClean}
+use Rattle.sets.specs.Some.{someBelow}
 use Rattle.bits.specs.Sets.{member, putIn}
-use Rattle.marking.specs.Markable.{markable, markableBelow}
+use Rattle.marking.specs.Markable.{markable}
 
 -- the marks after one atom was looked at
 abbrev pub markedOne : List ℕ → ℕ → Bool → List ℕ
@@ -24,7 +25,7 @@ markedBelow s H C (suc a) = markedOne (markedBelow s H C a) a (markable (member 
 -- the marks s became s′ by looking at the atoms below n, and any says whether one was marked
 pub record RoundOver (s : List ℕ) (H C : ℕ → Bool) (n : ℕ) (any : Bool) (s′ : List ℕ) : Type 0 where
   pub marks-are : s′ ≡ markedBelow s H C n
-  pub any-is : any ≡ markableBelow (member s) H C n
+  pub any-is : any ≡ someBelow (markable (member s) H C) n
 
 -- marks made from none, and literals that are held with them
 pub record Begun (R : List Rule) (s h : List ℕ) : Type 0 where

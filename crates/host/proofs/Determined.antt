@@ -8,12 +8,11 @@ use native.Mathlib.Omega.{arith}
 use lib.ListN.{length}
 use Rattle.refusal.specs.declared.Refusal.{Refusal}
 use Rattle.refusal.specs.Numbers.{cut-short}
-use Rattle.refusal.specs.declared.Checked.{Checked}
 use Rattle.refusal.specs.declared.Checked.the-variants.{Accepted, Refused}
-use Rattle.refusal.specs.Checks.{asking, orElse}
+use Rattle.refusal.specs.Checks.{asking}
 use Rattle.words.specs.Check.{AcceptedTable}
 use Rattle.words.specs.Layout.{rulesOf}
-use Rattle.refusal.proofs.Places.{PlacesTo, asking-to}
+use Rattle.refusal.proofs.Places.{PlacesTo}
 use Rattle.refusal.proofs.Laws.{orElse-accepted, refused≢accepted}
 use Rattle.words.proofs.Laws.{accepted-length}
 use Rattle.paper.specs.Rules.{positive}
@@ -25,6 +24,7 @@ use Rattle.evaluation.proofs.Evaluated.{evaluation-accepted}
 use Rattle.evaluation.proofs.Laws.{evaluation-within}
 use Rattle.host.specs.Bytes.{wordsIn, loneByte}
 use Rattle.host.specs.Evaluation.{hostFault, HostEvaluation, packed}
+use Rattle.host.proofs.Evaluating.{lone-within}
 
 -- where the host finds no fault the whole words are an accepted table
 pub host-accepted : (N : ℕ) (t : List ℕ) (lone : Bool) (room : ℕ) → hostFault N t lone room ≡ Accepted → AcceptedTable N t
@@ -43,13 +43,8 @@ host-determined N bytes room (HostEvaluation.evaluated e I s) (HostEvaluation.ev
 -- a refusal's number is not 0, and number and place have room in the answer
 host-within : (N : ℕ) (t : List ℕ) (lone : Bool) (room : ℕ) → PlacesTo 8192 (hostFault N t lone room)
 unfolding hostFault
-host-within N t lone room = go (evaluationFault N t room) refl
-  where
-    go : (x : Checked) → evaluationFault N t room ≡ x → PlacesTo 8192 (orElse x (asking (not lone) (cut-short (length t)) Accepted))
-    go (Refused f) e = subst (PlacesTo 8192) e (evaluation-within N t room)
-    go Accepted e =
-        let short = accepted-length N t (evaluation-accepted N t room e .1) in
-        asking-to 8192 (not lone) (cut-short (length t)) Accepted (omega arith, omega arith, omega arith) tt
+host-within N t lone room =
+    lone-within (evaluationFault N t room) t lone (evaluation-within N t room) (λ e. accepted-length N t (evaluation-accepted N t room e .1))
 
 -- an answer tells its cause: 0 exactly if nothing refuses, else the fault that the written order finds
 pub host-answer-tells : (N : ℕ) (bytes room : List ℕ) {a : ℕ} {room′ : List ℕ} → HostEvaluation N bytes room a room′

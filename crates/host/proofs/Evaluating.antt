@@ -1,5 +1,5 @@
 -- The host's answers from evaluation's outcomes. Assumes nothing.
-use mathlib.Core.Bool.{Bool, true, false, cond}
+use mathlib.Core.Bool.{Bool, true, false, not, cond}
 use mathlib.Core.List.{List, _++_}
 use mathlib.Core.Path.{_≡_, refl, sym, ap, _∙_, subst}
 use Prim.Native.Nat.{ℕ, _/_, _%_, _≤_, _<_}
@@ -13,13 +13,12 @@ use Rattle.refusal.specs.Numbers.{cut-short, table-too-long, too-many-atoms}
 use Rattle.refusal.specs.declared.Checked.{Checked}
 use Rattle.refusal.specs.declared.Checked.the-variants.{Accepted, Refused}
 use Rattle.refusal.proofs.Laws.{orElse-nothing}
-use Rattle.refusal.specs.Checks.{asking, orElse}
-use Rattle.refusal.proofs.Places.{PlacesTo}
+use Rattle.refusal.proofs.Places.{PlacesTo, asking-to}
 use Rattle.evaluation.specs.Evaluation.{evaluationFault, EvaluationAllows}
 use Rattle.evaluation.proofs.Laws.{refused-is, evaluated-is, evaluation-within}
-use Rattle.host.specs.Bytes.{wordsIn, loneByte}
+use Rattle.host.specs.Bytes.{wordsIn, loneByte, thenLoneByte}
 use Rattle.host.specs.Evaluation.{hostFault, packed, HostEvaluation}
-use Rattle.host.specs.WholeWords.{Packable, WordsEvaluation, tooLongAnswer}
+use Rattle.host.specs.WholeWords.{Packable, CheckPackable, WordsEvaluation, tooLongAnswer}
 use Rattle.host.proofs.Bytes.{length-wordsIn}
 
 pub within-packable : (x : Checked) (f : Refusal) → PlacesTo 8192 x → x ≡ Refused f → Packable f
@@ -48,22 +47,26 @@ words-evaluated N t room room′ ans o e =
     rw (q .1 .2) (WordsEvaluation.evaluated (q .0) (q .1 .0) (q .1 .1))
 
 -- a fault of the words comes before the lone byte
-pub cut-refused : (N : ℕ) (t : List ℕ) (room : ℕ) (x : Checked) (r : Refusal) → x ≡ evaluationFault N t room → x ≡ Refused r
-    → (hostFault N t true room ≡ Refused r) × Packable r
-unfolding hostFault
-cut-refused N t room x r e p = (
-  ap (λ (c : Checked). orElse c (asking false (cut-short (length t)) Accepted)) (sym e ∙ p),
-  within-packable (evaluationFault N t room) r (evaluation-within N t room) (sym e ∙ p),
-)
+pub cut-refused : (fault : Checked) (words : ℕ) (r : Refusal) → CheckPackable fault → fault ≡ Refused r
+    → (thenLoneByte fault words true ≡ Refused r) × Packable r
+cut-refused fault words r small e = (ap (λ (c : Checked). thenLoneByte c words true) e, small r e)
 
-pub cut-accepted : (N : ℕ) (t : List ℕ) (room : ℕ) (x : Checked) (r : Refusal)
-    → length t ≤ 8192 → x ≡ evaluationFault N t room → x ≡ Accepted → r ≡ cut-short (length t)
-    → (hostFault N t true room ≡ Refused r) × Packable r
-unfolding hostFault
-cut-accepted N t room x r h e p q = (
-  ap (λ (c : Checked). orElse c (asking false (cut-short (length t)) Accepted)) (sym e ∙ p) ∙ ap Refused (sym q),
+pub cut-accepted : (fault : Checked) (words : ℕ) (r : Refusal) → words ≤ 8192 → fault ≡ Accepted → r ≡ cut-short words
+    → (thenLoneByte fault words true ≡ Refused r) × Packable r
+cut-accepted fault words r h e q = (
+  ap (λ (c : Checked). thenLoneByte c words true) e ∙ ap Refused (sym q),
   rw q (record { number-small = omega arith; place-small = omega arith }),
 )
+
+-- a lone byte after an accepted table is refused at a small place
+pub lone-within : (fault : Checked) (t : List ℕ) (lone : Bool) → PlacesTo 8192 fault → (fault ≡ Accepted → length t ≤ 8192)
+    → PlacesTo 8192 (thenLoneByte fault (length t) lone)
+lone-within (Refused f) t lone small short = small
+lone-within Accepted t lone small short =
+    let h = short refl in asking-to 8192 (not lone) (cut-short (length t)) Accepted (omega arith, omega arith, omega arith) tt
+
+pub evaluation-packable : (N : ℕ) (t : List ℕ) (room : ℕ) (x : Checked) → x ≡ evaluationFault N t room → CheckPackable x
+evaluation-packable N t room x e f p = within-packable (evaluationFault N t room) f (evaluation-within N t room) (sym e ∙ p)
 
 -- the words that were filled in
 pub front-words : (bs old now : List ℕ) (m : ℕ) → m ≡ length bs / 2 → now ≡ wordsIn bs ++ drop (length bs / 2) old → take m now ≡ wordsIn bs
@@ -82,10 +85,12 @@ host-too-long N bs room a h e = rw e (go (leb N 512) refl)
     go true p = HostEvaluation.refused {f = table-too-long} (rw (p, long) refl)
     go false p = HostEvaluation.refused {f = too-many-atoms} (rw p refl)
 
-pub host-cut : (N : ℕ) (bs room : List ℕ) (t : List ℕ) (r : Refusal) (a : ℕ) → length bs % 2 ≡ 1 → t ≡ wordsIn bs
-    → hostFault N t true (length room) ≡ Refused r → a ≡ packed r → HostEvaluation N bs room a room
-host-cut N bs room t r a odd et e p =
-    rw p (HostEvaluation.refused {f = r} (rw (eq-eqb (length bs % 2) 1 odd, ← et) e))
+pub host-cut : (N : ℕ) (bs room : List ℕ) (t : List ℕ) (fault : Checked) (r : Refusal) (a : ℕ) → length bs % 2 ≡ 1 → t ≡ wordsIn bs
+    → fault ≡ evaluationFault N t (length room) → thenLoneByte fault (length bs / 2) true ≡ Refused r → a ≡ packed r
+    → HostEvaluation N bs room a room
+unfolding hostFault
+host-cut N bs room t fault r a odd et ef e p =
+    rw p (HostEvaluation.refused {f = r} (rw (eq-eqb (length bs % 2) 1 odd, ← et, ← ef, ap length et ∙ length-wordsIn bs) e))
 
 pub host-whole : (N : ℕ) (bs room : List ℕ) (t : List ℕ) (a : ℕ) (room′ : List ℕ) → (length bs % 2 ≡ 1 → ⊥)
     → t ≡ wordsIn bs → WordsEvaluation N t room a room′ → HostEvaluation N bs room a room′

@@ -1,4 +1,5 @@
 pub mod Bytes
 pub mod Evaluating
+pub mod Conflict
 pub mod Determined
 pub mod OnlyLines

@@ -1,24 +1,22 @@
 -- Believed: the host's evaluation, over bytes.
-use mathlib.Core.Bool.{Bool, not}
+use mathlib.Core.Bool.{Bool}
 use mathlib.Core.List.{List}
 use mathlib.Core.Path.{_≡_}
 use Prim.Native.Nat.{ℕ, _+_, _*_}
 use lib.ListN.{length}
 use Rattle.refusal.specs.declared.Refusal.{Refusal}
-use Rattle.refusal.specs.Numbers.{cut-short}
 use Rattle.refusal.specs.declared.Checked.{Checked}
 use Rattle.refusal.specs.declared.Checked.the-variants.{Accepted, Refused}
-use Rattle.refusal.specs.Checks.{asking, orElse}
 use Rattle.words.specs.Layout.{rulesOf}
 use Rattle.paper.specs.Rules.{positive}
 use Rattle.paper.specs.Definitions.{Interpretation, value, Smallest}
 use Rattle.values.specs.Values.{written}
 use Rattle.evaluation.specs.Evaluation.{evaluationFault}
-use Rattle.host.specs.Bytes.{wordsIn, loneByte}
+use Rattle.host.specs.Bytes.{wordsIn, loneByte, thenLoneByte}
 
--- 1, 2, 3, the whole words, then a lone last byte: a record cut short, at the whole words' number
+-- 1, 2, 3, the whole words, then a lone last byte
 unfoldable pub hostFault : ℕ → List ℕ → Bool → ℕ → Checked
-hostFault N t lone room = orElse (evaluationFault N t room) (asking (not lone) (cut-short (length t)) Accepted)
+hostFault N t lone room = thenLoneByte (evaluationFault N t room) (length t) lone
 
 -- 2^32 times the number, plus the place
 abbrev pub packed : Refusal → ℕ

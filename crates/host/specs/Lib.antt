@@ -1,3 +1,4 @@
 pub mod Bytes
 pub mod Evaluation
+pub mod Conflict
 pub mod WholeWords

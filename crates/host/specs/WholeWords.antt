@@ -8,7 +8,9 @@ use lib.ListN.{length, getD}
 use Rattle.limits.specs.Limits.{mostAtoms}
 use Rattle.refusal.specs.declared.Refusal.{Refusal}
 use Rattle.refusal.specs.Numbers.{table-too-long, too-many-atoms}
+use Rattle.refusal.specs.declared.Checked.{Checked}
 use Rattle.refusal.specs.declared.Checked.the-variants.{Accepted, Refused}
+use Rattle.refusal.specs.declared.Decided.{Decided}
 use Rattle.words.specs.Layout.{rulesOf}
 use Rattle.paper.specs.Rules.{positive}
 use Rattle.paper.specs.Definitions.{Interpretation, value, Smallest}
@@ -20,6 +22,13 @@ use Rattle.host.specs.Evaluation.{packed}
 pub record Packable (f : Refusal) : Type 0 where
   pub number-small : f .number < 4294967296
   pub place-small : f .place < 4294967296
+
+-- so have those of a check, and of an answer to a question
+abbrev pub CheckPackable : Checked → Type 0
+CheckPackable c = (f : Refusal) → c ≡ Refused f → Packable f
+
+abbrev pub DecidedPackable : Decided → Type 0
+DecidedPackable d = (f : Refusal) → d ≡ Decided.Refused f → Packable f
 
 -- the answer for whole words
 pub data WordsEvaluation (N : ℕ) (t room : List ℕ) : ℕ → List ℕ → Type 0 where

@@ -1,4 +1,5 @@
 use refusal::Checked;
+use refusal::Decided;
 use refusal::Refusal;
 ghost use mathlib.Core.Path.{_≡_};
 ghost use mathlib.Core.List.{_++_};
@@ -6,9 +7,10 @@ ghost use mathlib.Core.Bool.{Bool};
 ghost use Prim.Native.Nat.{_+_, _*_, _/_, _≤_, _<_};
 ghost use lib.ListN.{length, drop};
 ghost use Rattle.limits.specs.Limits.{mostWords};
-ghost use Rattle.host.specs.Bytes.{wordsIn};
-ghost use Rattle.host.specs.WholeWords.{wordAt, WordsEvaluation, tooLongAnswer, Packable};
-ghost use Rattle.host.specs.Evaluation.{hostFault, HostEvaluation, packed};
+ghost use Rattle.host.specs.Bytes.{wordsIn, thenLoneByte};
+ghost use Rattle.host.specs.WholeWords.{wordAt, WordsEvaluation, tooLongAnswer, Packable, CheckPackable, DecidedPackable};
+ghost use Rattle.host.specs.Evaluation.{HostEvaluation, packed};
+ghost use Rattle.host.specs.Conflict.{HostConflict, packedDecided};
 
 // A word of two bytes, low byte first.
 fn word_of(bytes: &[u8], i: usize) -> u16
@@ -49,15 +51,15 @@ pub fn pack(r: Refusal) -> u64
     4294967296 * number + place
 }
 
-// The answer for words that were accepted or refused, before a lone byte is looked at.
-fn cut_short(n: u64, words: &[u16], room: u64) -> Refusal
-    requires { ⌜ length (now words) ≤ mostWords ⌝ }
-    ensures { λ r. ⌜ (hostFault n (now (words .entry)) Bool.true room ≡ Checked.Refused r) × Packable r ⌝ }
+// What a lone byte after so many words is answered: their own fault comes first.
+fn cut_short(fault: Checked, words: usize) -> Refusal
+    requires { ⌜ (words ≤ mostWords) × CheckPackable fault ⌝ }
+    ensures { λ r. ⌜ (thenLoneByte fault words Bool.true ≡ Checked.Refused r) × Packable r ⌝ }
 {
-    if let Checked::Refused(r) = evaluation::evaluation_fault(n, words, room) {
+    if let Checked::Refused(r) = fault {
         return r;
     }
-    refusal::at(refusal::CUT_SHORT, words.len())
+    refusal::at(refusal::CUT_SHORT, words)
 }
 
 // Whole words, and no byte after them.
@@ -91,7 +93,37 @@ pub fn evaluate_bytes(n: u64, table: &[u8], values: &mut [u8]) -> u64
     let mut words = [0u16; limits::MOST_WORDS];
     fill_words(table, &mut words);
     if table.len() % 2 == 1 {
-        return pack(cut_short(n, &words[..m], values.len() as u64));
+        return pack(cut_short(
+            evaluation::evaluation_fault(n, &words[..m], values.len() as u64),
+            m,
+        ));
     }
     evaluate_words(n, &words[..m], values)
+}
+
+fn pack_decided(answer: Decided) -> u64
+    requires { ⌜ DecidedPackable answer ⌝ }
+    ensures { λ a. ⌜ a ≡ packedDecided answer ⌝ }
+{
+    match answer {
+        Decided::No => 0,
+        Decided::Yes => 1,
+        Decided::Refused(r) => pack(r),
+    }
+}
+
+// The question of conflict over bytes: 0 is no, 1 is yes, or the refusal packed.
+pub fn conflict_bytes(n: u64, table: &[u8]) -> u64
+    ensures { λ a. ⌜ HostConflict n (now (table .entry)) a ⌝ }
+{
+    let m = table.len() / 2;
+    if limits::MOST_WORDS < m {
+        return too_long(n);
+    }
+    let mut words = [0u16; limits::MOST_WORDS];
+    fill_words(table, &mut words);
+    if table.len() % 2 == 1 {
+        return pack(cut_short(words::check(n, &words[..m]), m));
+    }
+    pack_decided(conflict::in_conflict(n, &words[..m]))
 }

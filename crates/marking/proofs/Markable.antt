@@ -3,15 +3,15 @@ use mathlib.Core.Bool.{Bool, not, _&&_, _||_}
 use mathlib.Core.List.{List}
 use mathlib.Core.Logic.{_⊎_, inl, inr, ⊎-elim, _↔_}
 use mathlib.Core.Path.{_≡_, sym, _∙_}
-use Prim.Native.Nat.{ℕ, zero, suc, _<_}
-use native.Mathlib.Omega.{arith}
-use native.Mathlib.Decide.{ℕ-discrete}
+use Prim.Native.Nat.{ℕ}
 use lib.Dec.{T, T-not, not-T}
 use Rattle.paper.specs.Rules.{Rule, HeadsBelow, positive, negative}
 use Rattle.paper.specs.Marking.{Marks, Held, HeldNotClean, CanBeMarked, IsHeld, IsClean}
 use Rattle.sets.proofs.Tests.{and-intro, and-left, and-right, or-left, or-right, or-cases, true→T, false→not}
+use Rattle.sets.specs.Some.{someBelow}
+use Rattle.sets.proofs.Some.{some→, →some}
 use Rattle.paper.proofs.Order.{can-be-marked-below}
-use Rattle.marking.specs.Markable.{heldNotClean, conflicts, markable, markableBelow, GoesOn}
+use Rattle.marking.specs.Markable.{heldNotClean, conflicts, markable, GoesOn}
 
 module _ (R : List Rule) (A : Marks) (H C : ℕ → Bool) (h : IsHeld R A H) (c : IsClean R A C) where
   heldNotClean→ : (l : ℕ) → T (heldNotClean H C l) → HeldNotClean R A l
@@ -49,26 +49,12 @@ module _ (R : List Rule) (A : Marks) (H C : ℕ → Bool) (h : IsHeld R A H) (c 
         (m .because)),
   )
 
-  some→ : (n : ℕ) → T (markableBelow A H C n) → (a : ℕ) × T (markable A H C a)
-  unfolding markableBelow
-  some→ zero t = absurd t
-  some→ (suc n) t =
-      ⊎-elim (λ (x : T (markable A H C n)). (n, x)) (λ (x : T (markableBelow A H C n)). some→ n x) (or-cases (markable A H C n) (markableBelow A H C n) t)
-
-  →some : (n a : ℕ) → a < n → T (markable A H C a) → T (markableBelow A H C n)
-  unfolding markableBelow
-  →some zero a lt t = absurd (omega arith)
-  →some (suc n) a lt t =
-      elim (ℕ-discrete a n) [
-        | yes e ↦ or-left (markable A H C n) (markableBelow A H C n) (rw (← e) t)
-        | no e ↦ or-right (markable A H C n) (markableBelow A H C n) (→some n a (omega arith) t)
-      ]
-
-  pub goes-on : (n : ℕ) → HeadsBelow n R → (r : Bool) → r ≡ markableBelow A H C n → GoesOn R A r
+  pub goes-on : (n : ℕ) → HeadsBelow n R → (r : Bool) → r ≡ someBelow (markable A H C) n → GoesOn R A r
   goes-on n below r e =
       record {
-        when-true = λ f s. let q = some→ n (true→T (markableBelow A H C n) (sym e ∙ f)) in s (q .0) (markable-is (q .0) .0 (q .1));
+        when-true = λ f s.
+            let q = some→ (markable A H C) n (true→T (someBelow (markable A H C) n) (sym e ∙ f)) in s (q .0) (markable-is (q .0) .0 (q .1));
         when-false = λ f a m. T-not
-            (markableBelow A H C n) (false→not (markableBelow A H C n) (sym e ∙ f))
-            (→some n a (can-be-marked-below R n below A a m) (markable-is a .1 m));
+            (someBelow (markable A H C) n) (false→not (someBelow (markable A H C) n) (sym e ∙ f))
+            (→some (markable A H C) n a (can-be-marked-below R n below A a m) (markable-is a .1 m));
       }

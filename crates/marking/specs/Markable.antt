@@ -2,7 +2,7 @@
 use mathlib.Core.Bool.{Bool, true, false, not, _&&_, _||_}
 use mathlib.Core.List.{List}
 use mathlib.Core.Path.{_≡_}
-use Prim.Native.Nat.{ℕ, zero, suc}
+use Prim.Native.Nat.{ℕ}
 use Rattle.paper.specs.Rules.{Rule, positive, negative}
 use Rattle.paper.specs.Marking.{Marks, Settled}
 
@@ -15,11 +15,6 @@ conflicts H C a = H (positive a) && H (negative a) || (heldNotClean H C (positiv
 
 abbrev pub markable : (ℕ → Bool) → (ℕ → Bool) → (ℕ → Bool) → ℕ → Bool
 markable A H C a = not (A a) && conflicts H C a
-
--- one of the atoms below n
-unfoldable pub markableBelow : (ℕ → Bool) → (ℕ → Bool) → (ℕ → Bool) → ℕ → Bool
-markableBelow A H C zero = false
-markableBelow A H C (suc n) = markable A H C n || markableBelow A H C n
 
 -- an answer to "can any atom be marked"
 pub record GoesOn (R : List Rule) (A : Marks) (answer : Bool) : Type 0 where

@@ -4,13 +4,14 @@ ghost use Prim.Native.Nat.{_≤_, _<_};
 ghost use lib.Dec.{T};
 ghost use lib.ListN.{length};
 ghost use Rattle.limits.specs.Limits.{mostAtoms};
+ghost use Rattle.sets.specs.Some.{someBelow};
 ghost use Rattle.bits.specs.Sets.{member};
 ghost use Rattle.words.specs.Layout.{rulesOf};
 ghost use Rattle.least.specs.Passing.{Records};
 ghost use mathlib.Core.Logic.{_↔_};
 ghost use Rattle.paper.specs.Rules.{HeadsBelow};
 ghost use Rattle.paper.specs.Marking.{CanBeMarked};
-ghost use Rattle.marking.specs.Markable.{heldNotClean, conflicts, markable, markableBelow, GoesOn};
+ghost use Rattle.marking.specs.Markable.{heldNotClean, conflicts, markable, GoesOn};
 
 fn not_clean(clean: &[u64], l: usize) -> bool
     ensures { λ r. ⌜ r ≡ not (member (now (clean .entry)) l) ⌝ }
@@ -58,7 +59,7 @@ pub fn is_markable(marks: &[u64], held: &[u64], clean: &[u64], a: usize) -> bool
 // Can one of the `n` atoms be marked?
 fn some_markable(marks: &[u64], held: &[u64], clean: &[u64], n: usize) -> bool
     requires { ⌜ n ≤ mostAtoms ⌝ }
-    ensures { λ r. ⌜ r ≡ markableBelow (member (now (marks .entry))) (member (now (held .entry))) (member (now (clean .entry))) n ⌝ }
+    ensures { λ r. ⌜ r ≡ someBelow (markable (member (now (marks .entry))) (member (now (held .entry))) (member (now (clean .entry)))) n ⌝ }
 {
     let mut a = n;
     while 0 < a {

@@ -9,5 +9,6 @@ pub mod Supported
 pub mod Order
 pub mod Existence
 pub mod Smallest
+pub mod Conflict
 pub mod Examples
 pub mod Theorems

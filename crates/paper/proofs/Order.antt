@@ -85,7 +85,7 @@ module _ (R : List Rule) where
     marking-count (one-more {A = A} a k c) =
         count-with N A a (can-be-marked-below A a c) (c .unmarked) ∙ ap suc (marking-count k)
 
-is𝐢→ : (v : Value) → T (isInconsistent v) → v ≡ 𝐢
+pub is𝐢→ : (v : Value) → T (isInconsistent v) → v ≡ 𝐢
 is𝐢→ 𝐟 h = absurd h
 is𝐢→ 𝐮 h = absurd h
 is𝐢→ 𝐢 h = refl

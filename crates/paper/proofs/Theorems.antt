@@ -8,7 +8,7 @@ use Rattle.paper.specs.Table1.{𝐢, not′}
 use Rattle.paper.specs.Rules.{Rule, OneRulePerHead, HeadsBelow, positive, negation}
 use Rattle.sets.specs.Sets.{_∈_, _⊆_, count}
 use Rattle.paper.specs.Definitions.{Interpretation, value, bodyValue, Model, SmallestWellSupported, Smallest}
-use Rattle.paper.specs.Marking.{Marks, Marked, Unmarked, CanBeMarked, Settled, Marking, Pass, Passes, IsHeld, inconsistent, settledValue}
+use Rattle.paper.specs.Marking.{Marks, Marked, Unmarked, CanBeMarked, Settled, noMarks, Conflict, Marking, Pass, Passes, IsHeld, inconsistent, settledValue}
 use Rattle.paper.specs.Examples.{Example, Says, examples}
 use Rattle.paper.proofs.Values.{𝐢-implies, value-negation}
 use Rattle.paper.proofs.Leasts.{can-be-marked-mono}
@@ -16,6 +16,7 @@ use Rattle.paper.proofs.Settled as rooms-settled
 use Rattle.paper.proofs.Order as rooms-order
 use Rattle.paper.proofs.Existence as rooms-existence
 use Rattle.paper.proofs.Smallest as rooms-smallest
+use Rattle.paper.proofs.Conflict as rooms-conflict
 use Rattle.paper.proofs.Examples as rooms-examples
 
 -- 1. From no marks, marking one at a time an atom that can be marked, until settled: the held literals are a model, ..
@@ -59,6 +60,17 @@ pub marks-are-the-inconsistent-atoms : (R : List Rule) → OneRulePerHead R
     → {n : ℕ} {A : Marks} → Marking R n A → Settled R A → (I : Interpretation) → Smallest R I
     → (a : ℕ) → A a ≡ inconsistent I a
 marks-are-the-inconsistent-atoms R one k s I i a = rooms-smallest.marks-are-inconsistent R one k s I i a
+
+-- so some atom is inconsistent in the smallest model, for orders of any kind, exactly if some atom has both literals held before any mark ..
+pub conflict-exactly-if-inconsistent : (R : List Rule) → OneRulePerHead R → (I : Interpretation) → SmallestWellSupported R I
+    → Conflict R ↔ ((a : ℕ) × (value I (positive a) ≡ 𝐢))
+conflict-exactly-if-inconsistent R one I i =
+    let test = rooms-smallest.smallest↔any R one I .1 i in
+    ((λ c. (c .0, rooms-conflict.conflict→inconsistent R one I test c)), λ x. rooms-conflict.inconsistent→conflict R one I test (x .0) (x .1))
+
+-- .. and there is nothing to mark exactly if none has
+pub settled-exactly-without-conflict : (R : List Rule) → Settled R noMarks ↔ (Conflict R → ⊥)
+settled-exactly-without-conflict R = rooms-conflict.settled↔no-conflict R
 
 -- can-be-marked is monotone in the marks
 pub can-be-marked-is-monotone : (R : List Rule) (A B : Marks) → A ⊆ B → (a : ℕ) → Unmarked B a → CanBeMarked R A a → CanBeMarked R B a

@@ -50,6 +50,10 @@ Settled R A = (a : ℕ) → CanBeMarked R A a → ⊥
 abbrev pub noMarks : Marks
 noMarks a = false
 
+-- conflict: some atom has both literals held before any mark
+abbrev pub Conflict : List Rule → Type 0
+Conflict R = (a : ℕ) × Held R noMarks (positive a) × Held R noMarks (negative a)
+
 -- n marks made from none, one at a time, each of an atom that could be marked then
 pub data Marking (R : List Rule) : ℕ → Marks → Type 0 where
   none : Marking R 0 noMarks

@@ -4,6 +4,7 @@ use mathlib.Core.Path.{_≡_, refl, sym, ap, _∙_, fun-ext}
 use Prim.Native.Nat.{ℕ}
 use lib.Dec.{T-not}
 use Rattle.refusal.proofs.Laws.{refused≢accepted}
+use Rattle.refusal.proofs.Questions.{question-determined}
 use Rattle.paper.specs.Definitions.{Interpretation}
 use Rattle.paper.specs.Marking.{settledValue}
 use Rattle.sets.proofs.Tests.{same-tests→≡}
@@ -35,15 +36,7 @@ module _ (r : MarkRecord) (t : List ℕ) where
   pick-determined n (PickAllows.cannot-be-marked-now e u c) (PickAllows.cannot-be-marked-now e′ u′ c′) = (refl, refl)
 
   pub settled-determined : {a b : Decided} → SettledAllows r t a → SettledAllows r t b → a ≡ b
-  settled-determined (SettledAllows.refused {f} e) (SettledAllows.refused {f = g} e′) = let q : f ≡ g = cc in ap Decided.Refused q
-  settled-determined (SettledAllows.refused {f} e) (SettledAllows.answers-yes e′ s) = absurd (refused≢accepted f (sym e ∙ e′))
-  settled-determined (SettledAllows.refused {f} e) (SettledAllows.answers-no e′ s) = absurd (refused≢accepted f (sym e ∙ e′))
-  settled-determined (SettledAllows.answers-yes e s) (SettledAllows.refused {f} e′) = absurd (refused≢accepted f (sym e′ ∙ e))
-  settled-determined (SettledAllows.answers-yes e s) (SettledAllows.answers-yes e′ s′) = refl
-  settled-determined (SettledAllows.answers-yes e s) (SettledAllows.answers-no e′ s′) = absurd (s′ s)
-  settled-determined (SettledAllows.answers-no e s) (SettledAllows.refused {f} e′) = absurd (refused≢accepted f (sym e′ ∙ e))
-  settled-determined (SettledAllows.answers-no e s) (SettledAllows.answers-yes e′ s′) = absurd (s s′)
-  settled-determined (SettledAllows.answers-no e s) (SettledAllows.answers-no e′ s′) = refl
+  settled-determined o o′ = question-determined o o′
 
   pub report-determined : (room : List ℕ) {a b : Checked} {x y : List ℕ}
       → ReportAllows r t room a x → ReportAllows r t room b y → (a ≡ b) × (x ≡ y)

@@ -12,6 +12,7 @@ use Rattle.refusal.specs.declared.Checked.the-variants.{Accepted}
 use Rattle.words.specs.Check.{AcceptedTable}
 use Rattle.words.specs.Layout.{rulesOf}
 use Rattle.refusal.proofs.Laws.{refused≢accepted}
+use Rattle.refusal.proofs.Questions.{never-refused}
 use Rattle.words.proofs.Laws.{accepted-length}
 use Rattle.paper.specs.Definitions.{Interpretation}
 use Rattle.paper.specs.Marking.{Settled, IsHeld, settledValue}
@@ -39,9 +40,7 @@ module _ (N : ℕ) (t : List ℕ) (accepted : AcceptedTable N t) (r : MarkRecord
   settled-accepted = rw (record-accepted, g .same-n, accepted)
 
   pub settled-not-refused : {answer : Decided} → SettledAllows r t answer → (f : Refusal) → answer ≡ Decided.Refused f → ⊥
-  settled-not-refused (SettledAllows.refused {f = x} e) f same = refused≢accepted x (sym e ∙ settled-accepted)
-  settled-not-refused (SettledAllows.answers-yes e s) f same = absurd (let z : _≡_ {A = ℕ} 0 1 = cc in omega arith)
-  settled-not-refused (SettledAllows.answers-no e s) f same = absurd (let z : _≡_ {A = ℕ} 0 1 = cc in omega arith)
+  settled-not-refused o = never-refused settled-accepted o
 
   -- with room the report is refused by 18 alone
   pub only-before-settled : (room : List ℕ) → N ≤ length room → {answer : Checked} {room′ : List ℕ} → ReportAllows r t room answer room′

@@ -11,6 +11,7 @@ use Rattle.refusal.specs.declared.Checked.{Checked}
 use Rattle.refusal.specs.declared.Checked.the-variants.{Accepted}
 use Rattle.refusal.specs.declared.Decided.{Decided}
 use Rattle.refusal.specs.Checks.{asking, orElse}
+use Rattle.refusal.proofs.Questions.{question-same, asked-of}
 use Rattle.words.proofs.OnlyLines.{Alike}
 use Rattle.records.specs.declared.MarkRecord.{MarkRecord}
 use Rattle.records.specs.Records.{recordFault, marksOf}
@@ -44,11 +45,7 @@ module _ (r : MarkRecord) (t u : List ℕ) (alike : Alike t u) where
       PickAllows.cannot-be-marked-now (same-pick a ∙ e) m (λ c. n (subst (λ (R : List Rule). CanBeMarked R (marksOf r) a) (sym (alike .rules)) c))
 
   settled-of : {x : Decided} → SettledAllows r t x → SettledAllows r u x
-  settled-of (SettledAllows.refused e) = SettledAllows.refused (same-settled ∙ e)
-  settled-of (SettledAllows.answers-yes e s) =
-      SettledAllows.answers-yes (same-settled ∙ e) (subst (λ (R : List Rule). Settled R (marksOf r)) (alike .rules) s)
-  settled-of (SettledAllows.answers-no e n) =
-      SettledAllows.answers-no (same-settled ∙ e) (λ s. n (subst (λ (R : List Rule). Settled R (marksOf r)) (sym (alike .rules)) s))
+  settled-of o = question-same same-settled (asked-of (λ (R : List Rule). Settled R (marksOf r)) (alike .rules)) o
 
   report-of : (room : List ℕ) {x : Checked} {room′ : List ℕ} → ReportAllows r t room x room′ → ReportAllows r u room x room′
   report-of room (ReportAllows.refused e) = ReportAllows.refused (same-report (length room) ∙ e)

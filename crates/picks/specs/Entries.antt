@@ -7,6 +7,7 @@ use Rattle.values.specs.Values.{written}
 use Rattle.refusal.specs.declared.Refusal.{Refusal}
 use Rattle.refusal.specs.Numbers.{not-settled}
 use Rattle.refusal.specs.declared.Checked.the-variants.{Accepted, Refused}
+use Rattle.refusal.specs.Questions.{QuestionAllows}
 use Rattle.words.specs.Layout.{rulesOf}
 use Rattle.paper.specs.Definitions.{Interpretation}
 use Rattle.paper.specs.Marking.{Marked, Unmarked, CanBeMarked, Settled, IsHeld, settledValue}
@@ -28,10 +29,8 @@ pub data PickAllows (r : MarkRecord) (t : List ℕ) (a : ℕ) : PickAnswer → M
       → PickAllows r t a PickAnswer.CannotBeMarkedNow r
 
 -- the settled question
-pub data SettledAllows (r : MarkRecord) (t : List ℕ) : Decided → Type 0 where
-  refused : {f : Refusal} → settledFault r t ≡ Refused f → SettledAllows r t (Decided.Refused f)
-  answers-yes : settledFault r t ≡ Accepted → Settled (rulesOf t) (marksOf r) → SettledAllows r t Decided.Yes
-  answers-no : settledFault r t ≡ Accepted → (Settled (rulesOf t) (marksOf r) → ⊥) → SettledAllows r t Decided.No
+abbrev pub SettledAllows : MarkRecord → List ℕ → Decided → Type 0
+SettledAllows r t = QuestionAllows (settledFault r t) (Settled (rulesOf t) (marksOf r))
 
 -- the report: values only when settled, by the i, t, f, u rule for the marks it is given
 pub data ReportAllows (r : MarkRecord) (t room : List ℕ) : Checked → List ℕ → Type 0 where

@@ -10,6 +10,7 @@ use Rattle.picks.specs.Entries.{PickAllows, SettledAllows, ReportAllows}
 use Rattle.records.specs.declared.MarkRecord.{MarkRecord}
 use Rattle.picks.specs.declared.PickAnswer.{PickAnswer}
 use Rattle.refusal.specs.declared.Decided.{Decided}
+use Rattle.conflict.specs.Conflict.{ConflictAllows}
 use Rattle.evaluation.specs.Evaluation.{EvaluationAllows}
 use Rattle.reader.specs.declared.Role.{Role}
 use Rattle.reader.specs.declared.SheetLiteral.{SheetLiteral}
@@ -58,6 +59,10 @@ pub data ReportPacked (r : MarkRecord) (t room : List ℕ) : ℕ → List ℕ �
 
 pub data CountPacked (r : MarkRecord) : ℕ → Type 0 where
   answers : {a : Numbered} → CountAllows r a → CountPacked r (numberedNumber a)
+
+-- the question of conflict: what crates/conflict allows, packed
+pub data ConflictPacked (N : ℕ) (t : List ℕ) : ℕ → Type 0 where
+  answers : {a : Decided} → ConflictAllows N t a → ConflictPacked N t (decidedNumber a)
 
 -- whole evaluation: what crates/evaluation allows, packed
 pub data EvaluationPacked (N : ℕ) (t room : List ℕ) : ℕ → List ℕ → Type 0 where

@@ -15,7 +15,7 @@ ghost use Rattle.words.specs.Check.{tableCheck};
 ghost use Prim.Native.Nat.{_≤_};
 ghost use lib.ListN.{length};
 ghost use Rattle.reader.specs.Readings.{readingAt, placeAfter, nextAt};
-ghost use Rattle.probe.specs.Packed.{packedWrapping, checkedNumber, numberedNumber, decidedNumber, pickNumber, FreshPacked, PickPacked, SettledPacked, ReportPacked, CountPacked, EvaluationPacked, roleNumber, literalNumber, readingNumber, nameStart, nameLength, sheetNumber, sheetAtoms, sheetWords, SheetPacked};
+ghost use Rattle.probe.specs.Packed.{packedWrapping, checkedNumber, numberedNumber, decidedNumber, pickNumber, FreshPacked, PickPacked, SettledPacked, ReportPacked, CountPacked, ConflictPacked, EvaluationPacked, roleNumber, literalNumber, readingNumber, nameStart, nameLength, sheetNumber, sheetAtoms, sheetWords, SheetPacked};
 
 // 2^32 times the number, plus the place.
 fn packed_refusal(r: Refusal) -> u64
@@ -147,6 +147,13 @@ pub extern "C" fn probe_mark_count(n: u64, marks: &[u64; 8]) -> u64
 {
     let m = *marks;
     numbered_number(records::mark_count(MarkRecord { n, marks: m }))
+}
+
+#[no_mangle]
+pub extern "C" fn probe_conflict(n: u64, table: &[u16]) -> u64
+    ensures { λ r. ⌜ ConflictPacked n (now (table .entry)) r ⌝ }
+{
+    decided_number(conflict::in_conflict(n, table))
 }
 
 #[no_mangle]

@@ -31,7 +31,8 @@ use Rattle.valuesheet.specs.Fitting.{printing, textAfter}
 use Rattle.sheets.specs.declared.SheetAnswer.{SheetAnswer}
 use Rattle.sheets.specs.SheetEntry.{sheetOf, counts, SheetAllows}
 use Rattle.sheets.specs.Holding.{Holding, Valued}
-use Rattle.sheets.proofs.Values.{same-lines, written-at, no-fault, in-buffer, printed-whole, printed-nothing}
+use Rattle.values.proofs.Written.{written-at}
+use Rattle.sheets.proofs.Values.{same-lines, no-fault, in-buffer, printed-whole, printed-nothing}
 
 allows : (s : List ℕ) (wordRoom nameRoom : ℕ) (text : List ℕ) {a a′ : SheetAnswer} {u u′ m m′ t t′ : List ℕ}
     → a ≡ a′ → u ≡ u′ → m ≡ m′ → t ≡ t′

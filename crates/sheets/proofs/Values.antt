@@ -2,21 +2,17 @@
 use mathlib.Core.Path.{_≡_, refl, sym, ap, ap₂, _∙_}
 use mathlib.Core.List.{List, [], _∷_, _++_}
 use mathlib.Core.Bool.{Bool, true, false, cond}
-use Prim.Native.Nat.{ℕ, zero, suc, _+_, _-_, _<_, _≤_}
-use native.Mathlib.Nat.{zero-add, add-zero}
+use Prim.Native.Nat.{ℕ, suc, _+_, _-_, _<_, _≤_}
 use native.Mathlib.Omega.{arith}
 use lib.Dec.{leb}
-use lib.ListN.{length, getD, drop, replicate, length-append, List·getD-append}
+use lib.ListN.{length, drop, replicate, length-append}
 use borrow.Author.Tests.{le-leb, leb-true, leb-false}
 use Rattle.refusal.specs.declared.Refusal.{Refusal}
 use Rattle.refusal.specs.Numbers.{too-many-atoms, table-too-long, value-room-too-small, text-room-too-small}
-use Rattle.paper.specs.Table1.{Value, code}
 use Rattle.refusal.specs.declared.Checked.the-variants.{Accepted}
 use Rattle.refusal.specs.Checks.{asking, orElse}
 use Rattle.words.specs.Check.{tableCheck, AcceptedTable}
 use Rattle.words.proofs.Laws.{accepted-atoms, accepted-length}
-use Rattle.values.specs.Values.{codesFrom, written}
-use Rattle.values.proofs.Written.{length-codes}
 use Rattle.evaluation.specs.Evaluation.{evaluationFault}
 use Rattle.buffers.specs.Padded.{padded}
 use Rattle.valuesheet.specs.declared.Printed.{Printed}
@@ -31,18 +27,6 @@ unfolding linesFrom
 same-lines s v v′ a [] e = refl
 same-lines s v v′ a (x ∷ es) e =
     ap₂ (λ (y : ℕ) (t : List ℕ). lineFor s x y ++ t) (e a (omega arith)) (same-lines s v v′ (suc a) es (λ b h. e b (omega arith)))
-
-code-at : (v : ℕ → Value) (a n b : ℕ) → b < n → getD (codesFrom v a n) b 0 ≡ code (v (a + b))
-unfolding codesFrom
-code-at v a zero b h = absurd (omega arith)
-code-at v a (suc n) zero h = ap (λ (x : ℕ). code (v x)) (sym (add-zero a))
-code-at v a (suc n) (suc b) h =
-    let there : suc a + b ≡ a + suc b = omega arith in code-at v (suc a) n b (omega arith) ∙ ap (λ (x : ℕ). code (v x)) there
-
-pub written-at : (v : ℕ → Value) (n : ℕ) (room : List ℕ) (a : ℕ) → a < n → getD (written v n room) a 0 ≡ code (v a)
-written-at v n room a h =
-    List·getD-append (codesFrom v 0 n) (drop n room) 0 a (omega (arith, length-codes v 0 n))
-    ∙ code-at v 0 n a h ∙ ap (λ (x : ℕ). code (v x)) (zero-add a)
 
 -- evaluation takes an accepted table
 pub no-fault : (N : ℕ) (t : List ℕ) (room : ℕ) → N ≤ room → AcceptedTable N t → evaluationFault N t room ≡ Accepted

@@ -1,5 +1,6 @@
 ghost use mathlib.Core.Path.{_≡_};
 ghost use Rattle.host.specs.Evaluation.{HostEvaluation};
+ghost use Rattle.host.specs.Conflict.{HostConflict};
 ghost use Rattle.hostsheet.specs.SheetBytes.{HostSheet};
 
 // Evaluation for a host in C: include/simmerknot.h says how it is used.
@@ -8,6 +9,14 @@ pub extern "C" fn simmerknot_evaluate(n: u64, table: &[u8], values: &mut [u8]) -
     ensures { λ a. ⌜ HostEvaluation n (now (table .entry)) (now (values .entry)) a (now (values .exit)) ⌝ }
 {
     host::evaluate_bytes(n, table, values)
+}
+
+// The question of conflict for a host in C.
+#[no_mangle]
+pub extern "C" fn simmerknot_conflict(n: u64, table: &[u8]) -> u64
+    ensures { λ a. ⌜ HostConflict n (now (table .entry)) a ⌝ }
+{
+    host::conflict_bytes(n, table)
 }
 
 // The sheet entry for a host in C.
@@ -26,7 +35,7 @@ pub extern "C" fn simmerknot_sheet(
 // SIMMERKNOT_VERSION of include/simmerknot.h: 1,000,000 × major + 1,000 × minor + patch.
 #[no_mangle]
 pub extern "C" fn simmerknot_version() -> u64
-    ensures { λ v. ⌜ v ≡ 3000 ⌝ }
+    ensures { λ v. ⌜ v ≡ 3001 ⌝ }
 {
-    3000
+    3001
 }

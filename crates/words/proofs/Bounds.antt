@@ -1,13 +1,16 @@
--- A refusal's number and place are small, and its number is not 0: the place is at most the table's length. Assumes nothing.
+-- A refusal's number and place are small, and its number is not 0: the place is at most 8,192. Assumes nothing.
 use mathlib.Core.Bool.{Bool, not, _&&_}
 use mathlib.Core.List.{List, [], _∷_}
 use Prim.Native.Nat.{ℕ, suc, _+_, _*_}
 use native.Mathlib.Omega.{arith}
 use lib.Dec.{leb, ltb}
 use lib.ListN.{length}
+use borrow.Author.Tests.{leb-true}
 use Rattle.refusal.proofs.Places.{PlacesTo, orElse-to, to-more, asking-to}
 use Rattle.refusal.specs.Numbers.{too-many-atoms, table-too-long, not-a-literal, second-rule, out-of-range}
-use Rattle.refusal.specs.declared.Checked.the-variants.{Accepted}
+use Rattle.refusal.specs.declared.Checked.{Checked}
+use Rattle.refusal.specs.declared.Checked.the-variants.{Accepted, Refused}
+use Rattle.refusal.proofs.Laws.{demanding-holds}
 use Rattle.words.specs.declared.Due.{Due}
 use Rattle.words.specs.declared.Due.the-variants.{Head, Line, Count, Size, Literal}
 use Rattle.refusal.specs.Checks.{asking}
@@ -38,10 +41,11 @@ walk-within N seen due p (w ∷ t) =
     (to-more (suc p + length t) (p + length (w ∷ t)) (omega arith) (walk N (seenAfter due seen w) (next due w) (suc p) t)
     (walk-within N (seenAfter due seen w) (next due w) (suc p) t))
 
-pub check-within : (N : ℕ) (t : List ℕ) → PlacesTo (length t) (tableCheck N t)
+-- a longer table is refused at 0
+pub check-within : (N : ℕ) (t : List ℕ) → PlacesTo 8192 (tableCheck N t)
 unfolding tableCheck
 check-within N t =
-    asking-to (length t) (leb N 512) too-many-atoms
-    (asking (leb (length t) 8192) table-too-long (walk N noHeads Head 0 t)) (omega arith, omega arith, omega arith)
-    (asking-to (length t) (leb (length t) 8192) table-too-long (walk N noHeads Head 0 t) (omega arith, omega arith, omega arith)
-    (to-more (0 + length t) (length t) (omega arith) (walk N noHeads Head 0 t) (walk-within N noHeads Head 0 t)))
+    let first : Checked = walk N noHeads Head 0 t in
+    asking-to 8192 (leb N 512) too-many-atoms (asking (leb (length t) 8192) table-too-long first) (omega arith, omega arith, omega arith)
+    (demanding-holds (PlacesTo 8192) Refused (leb (length t) 8192) table-too-long first (omega arith, omega arith, omega arith)
+    (λ e. to-more (0 + length t) 8192 (let h = leb-true (length t) 8192 e in omega arith) first (walk-within N noHeads Head 0 t)))

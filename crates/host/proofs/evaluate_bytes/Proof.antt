@@ -4,7 +4,7 @@ use native.Mathlib.Omega.{arith}
 use Prim.Native.Nat.{_/_}
 use lib.ListN.{length}
 use Rattle.host.proofs.Bytes.{length-wordsIn}
-use Rattle.host.proofs.Evaluating.{host-too-long, host-cut, host-whole, front-words}
+use Rattle.host.proofs.Evaluating.{host-too-long, host-cut, host-whole, front-words, evaluation-packable}
 use Rattle.host.proofs.evaluate_bytes.Statement.{statement}
 use Rattle.host.proofs.evaluate_bytes.Tie as tie
 
@@ -24,20 +24,20 @@ fill-words-requires c κs = search needs
 array-share-prefix-words : tie.Need-array-share-prefix-words
 array-share-prefix-words c = search needs
 
-slice-aggregate-cut-short : tie.Need-slice-aggregate-cut-short
-slice-aggregate-cut-short c =
+slice-aggregate-evaluation-fault : tie.Need-slice-aggregate-evaluation-fault
+slice-aggregate-evaluation-fault c =
     let entry = c .before .before .before .before .before .before .before .before in
     let table = entry .args .table .now in
     let w = front-words table _ _ (length table / 2) refl (c .before .before .before .fill-words .ensures) in
     sym (ap length w ∙ length-wordsIn table)
 
+evaluation-fault-requires : tie.Need-evaluation-fault-requires
+evaluation-fault-requires c κs = search needs
+
 cut-short-requires : tie.Need-cut-short-requires
 cut-short-requires c κs =
-    let entry = c .before .before .before .before .before .before .before .before in
-    let at-if1 = c .before .before .before .before .before .if1 in
-    let table = entry .args .table .now in
-    let w = front-words table _ _ (length table / 2) refl (c .before .before .before .fill-words .ensures) in
-    omega (arith, ap length w ∙ length-wordsIn table, at-if1 .left)
+    let at-if1 = c .before .before .before .before .before .before .if1 in
+    (at-if1 .left, evaluation-packable _ _ _ (c .evaluation-fault .result) (c .evaluation-fault .ensures))
 
 pack-requires : tie.Need-pack-requires
 pack-requires c κs =
@@ -45,12 +45,13 @@ pack-requires c κs =
 
 returns-2 : tie.Need-returns-2
 returns-2 c =
-    let entry = c .before .before .before .before .before .before .before .before .before .before in
-    let at-fill-words = c .before .before .before .before .before .fill-words in
+    let entry = c .before .before .before .before .before .before .before .before .before .before .before in
+    let at-fill-words = c .before .before .before .before .before .before .fill-words in
+    let at-if2 = c .before .before .before .before .if2 in
     let table = entry .args .table .now in
     let w = front-words table _ _ (length table / 2) refl (at-fill-words .ensures) in
-    host-cut (entry .args .n) table _ _ (c .before .cut-short .result) _
-    (c .before .before .before .if2 .taken) w (c .before .cut-short .ensures .0) (c .pack .ensures)
+    host-cut (entry .args .n) table _ _ (c .before .before .evaluation-fault .result) (c .before .cut-short .result) _
+    (at-if2 .taken) w (c .before .before .evaluation-fault .ensures) (c .before .cut-short .ensures .0) (c .pack .ensures)
 
 array-share-prefix-words-2 : tie.Need-array-share-prefix-words-2
 array-share-prefix-words-2 c = search needs
@@ -92,7 +93,8 @@ evaluate-bytes-spec =
     slice-aggregate-fill-words
     fill-words-requires
     array-share-prefix-words
-    slice-aggregate-cut-short
+    slice-aggregate-evaluation-fault
+    evaluation-fault-requires
     cut-short-requires
     pack-requires
     returns-2

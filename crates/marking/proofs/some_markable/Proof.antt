@@ -3,14 +3,16 @@ use Prim.Native.Nat.{_≤_}
 use native.Mathlib.Omega.{arith}
 use mathlib.Core.Path.{_≡_, refl}
 use Rattle.bits.specs.Sets.{member}
-use Rattle.marking.specs.Markable.{markableBelow}
-use Rattle.marking.proofs.Turns.{markable-goes-on, markable-found, markable-end}
+use Rattle.sets.specs.Some.{someBelow}
+use Rattle.sets.proofs.Some.{some-goes-on, some-found, some-end}
+use Rattle.marking.specs.Markable.{markable}
 use Rattle.marking.proofs.some_markable.Statement.{statement}
 use Rattle.marking.proofs.some_markable.Tie as tie
 
 abbrev Inv-loop : tie.InvT-loop
 Inv-loop marks held clean n a₀ a =
-    (a ≤ n) × (markableBelow (member marks) (member held) (member clean) a ≡ markableBelow (member marks) (member held) (member clean) n)
+    (a ≤ n)
+    × (someBelow (markable (member marks) (member held) (member clean)) a ≡ someBelow (markable (member marks) (member held) (member clean)) n)
 
 abbrev μ-loop : tie.MeasureT-loop
 μ-loop marks held clean n a₀ a =
@@ -28,7 +30,7 @@ is-markable-requires c κs = search needs
 
 returns : tie.Need-returns Inv-loop μ-loop
 returns c =
-    markable-found _ _ _ (c .before .before .before .loop .a) _
+    some-found _ (c .before .before .before .loop .a) _
     (c .before .before .loop-test .taken) (c .before .is-markable .ensures) (c .if1 .taken) (c .before .before .before .loop .inv .1)
 
 loop-less : tie.Need-loop-less Inv-loop μ-loop
@@ -37,13 +39,13 @@ loop-less c = search needs
 loop-again : tie.Need-loop-again Inv-loop μ-loop
 loop-again c = (
   omega arith,
-  markable-goes-on _ _ _ (c .before .before .before .loop .a) _
+  some-goes-on _ (c .before .before .before .loop .a) _
       (c .before .before .loop-test .taken) (c .before .is-markable .ensures) (c .if1 .left) (c .before .before .before .loop .inv .1),
 )
 
 returns-2 : tie.Need-returns-2 Inv-loop μ-loop
 returns-2 c =
-    markable-end _ _ _ (c .before .loop .a) (c .loop-test .left) (c .before .loop .inv .1)
+    some-end _ (c .before .loop .a) (c .loop-test .left) (c .before .loop .inv .1)
 
 pub some-markable-spec : {M : Type 1} → statement M
 some-markable-spec =

@@ -4,7 +4,7 @@ use Rattle.picks.proofs.Accepted.{settled-accepted}
 use Rattle.records.proofs.Laws.{record-good}
 use Rattle.words.proofs.Laws.{accepted-heads}
 use Rattle.least.proofs.Marked.{accepted-records}
-use Rattle.picks.specs.Entries.{SettledAllows}
+use Rattle.refusal.specs.Questions.{QuestionAllows}
 use Rattle.picks.proofs.settled.Statement.{statement}
 use Rattle.picks.proofs.settled.Tie as tie
 
@@ -16,7 +16,7 @@ enum-known-r c = search needs
 
 returns : tie.Need-returns
 returns c =
-    SettledAllows.refused (sym (c .before .before .before .settled-fault .ensures) ∙ c .before .r .given .1)
+    QuestionAllows.refused (sym (c .before .before .before .settled-fault .ensures) ∙ c .before .r .given .1)
 
 enum-told : tie.Need-enum-told
 enum-told c = search needs
@@ -40,13 +40,13 @@ returns-2 : tie.Need-returns-2
 returns-2 c =
     let at-settled-fault = c .before .before .before .before .before .before .settled-fault in
     let at-enum-told = c .before .before .before .before .enum-told in
-    SettledAllows.answers-no (sym (at-settled-fault .ensures) ∙ at-enum-told .given .1) (c .before .can-go-on .ensures .when-true (c .if1 .taken))
+    QuestionAllows.answers-no (sym (at-settled-fault .ensures) ∙ at-enum-told .given .1) (c .before .can-go-on .ensures .when-true (c .if1 .taken))
 
 returns-3 : tie.Need-returns-3
 returns-3 c =
     let at-settled-fault = c .before .before .before .before .before .before .settled-fault in
     let at-enum-told = c .before .before .before .before .enum-told in
-    SettledAllows.answers-yes (sym (at-settled-fault .ensures) ∙ at-enum-told .given .1) (c .before .can-go-on .ensures .when-false (c .if1 .left))
+    QuestionAllows.answers-yes (sym (at-settled-fault .ensures) ∙ at-enum-told .given .1) (c .before .can-go-on .ensures .when-false (c .if1 .left))
 
 pub settled-spec : {M : Type 1} → statement M
 settled-spec =
