@@ -1,31 +1,45 @@
-//! The host's two entries: bytes in place of words and names, one 64-bit number as the answer.
+//! The host's three entries: bytes in place of words and names, one 64-bit number as the answer.
 
-use crate::model;
 use crate::refusal::*;
-use crate::sheet;
+use crate::{model, sheet, table};
 
 /// 2^32 times the number, plus the place.
 fn packed(refusal: Refusal) -> u64 {
     (u64::from(refusal.number) << 32) + refusal.place
 }
 
-/// Evaluation: 0, or a packed refusal. A lone last byte is a record cut short, met after the whole words.
+/// The whole words of a table's bytes, and what comes after them: nothing, or a lone byte.
+pub fn whole_words(table: &[u8]) -> (Vec<u16>, &[u8]) {
+    let pairs = table.chunks_exact(2);
+    let lone = pairs.remainder();
+    (pairs.map(|pair| u16::from_le_bytes([pair[0], pair[1]])).collect(), lone)
+}
+
+/// The words of a table's bytes: `check` looks at the whole ones, then a lone last byte is a record cut short.
+fn checked_words(table: &[u8], check: impl FnOnce(&[u16]) -> Result<(), Refusal>) -> Result<Vec<u16>, Refusal> {
+    let (words, lone) = whole_words(table);
+    check(&words)?;
+    if !lone.is_empty() {
+        return refuse(RECORD_CUT_SHORT, words.len());
+    }
+    Ok(words)
+}
+
+/// Evaluation: 0, or a packed refusal.
 pub fn simmerknot_evaluate(n: u64, table: &[u8], values: &mut [u8]) -> u64 {
-    match evaluate(n, table, values) {
+    let check = |words: &[u16]| model::evaluation_rules(n, words, values.len()).map(|_| ());
+    match checked_words(table, check).and_then(|words| model::evaluate(n, &words, values)) {
         Ok(()) => 0,
         Err(refusal) => packed(refusal),
     }
 }
 
-fn evaluate(n: u64, table: &[u8], values: &mut [u8]) -> Result<(), Refusal> {
-    let pairs = table.chunks_exact(2);
-    let lone = pairs.remainder();
-    let words: Vec<u16> = pairs.map(|pair| u16::from_le_bytes([pair[0], pair[1]])).collect();
-    model::evaluation_rules(n, &words, values.len())?;
-    if !lone.is_empty() {
-        return refuse(RECORD_CUT_SHORT, words.len());
+/// The question of conflict: 0 for no, 1 for yes, or a packed refusal.
+pub fn simmerknot_conflict(n: u64, table: &[u8]) -> u64 {
+    match checked_words(table, |words| table::check(n, words)).and_then(|words| model::conflict(n, &words)) {
+        Ok(yes) => u64::from(yes),
+        Err(refusal) => packed(refusal),
     }
-    model::evaluate(n, &words, values)
 }
 
 /// The sheet entry: the value sheet's length, or a packed refusal. Bytes after the last whole entry are untouched.

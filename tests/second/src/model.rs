@@ -1,4 +1,4 @@
-//! Model wanted: Held, Clean, which atoms can be marked, and whole evaluation.
+//! Model wanted: Held, Clean, which atoms can be marked, whole evaluation, and the question of conflict.
 
 use crate::refusal::*;
 use crate::table::{self, Rule, atom_of};
@@ -100,4 +100,12 @@ pub fn evaluate(n: u64, words: &[u16], values: &mut [u8]) -> Result<(), Refusal>
     let settled = values_of(&rules, &settle(n, &rules)?);
     values[..settled.len()].copy_from_slice(&settled);
     Ok(())
+}
+
+/// Whether the table has an inconsistent atom (document 02, W3): some value of its whole evaluation is i. 1, 2, then the words.
+pub fn conflict(n: u64, words: &[u16]) -> Result<bool, Refusal> {
+    table::check_n(n)?;
+    let mut values = vec![U; n as usize];
+    evaluate(n, words, &mut values)?;
+    Ok(values.contains(&I))
 }

@@ -2,7 +2,7 @@
 
 use second::judge::{Interpretation, is_model, is_well_supported, smallest, values, well_supported_models};
 use second::marking::{Picked, fresh, mark_count, pick, report, settled};
-use second::model::evaluate;
+use second::model::{conflict, evaluate};
 use second::random::Chance;
 use second::tables::{EXAMPLES, Example};
 use second::truth::letter;
@@ -30,6 +30,16 @@ fn evaluation_gives_the_values() {
         assert_eq!(evaluate(table.n(), &table.words(), &mut values), Ok(()), "{}", example.name);
         assert_eq!(values.pop(), Some(9));
         assert_eq!(values, example.values_in_order(), "{}", example.name);
+    }
+}
+
+#[test]
+fn conflict_is_answered_yes_for_six_of_them() {
+    for example in EXAMPLES {
+        let table = example.table();
+        let expected = matches!(example.name, "P5" | "P7" | "P9" | "P10" | "P11" | "P12");
+        assert_eq!(conflict(table.n(), &table.words()), Ok(expected), "{}", example.name);
+        assert_eq!(expected, example.marks > 0, "{}", example.name);
     }
 }
 

@@ -1,7 +1,7 @@
 //! The host's entries on bytes, against the plain entries.
 
-use second::host::{simmerknot_evaluate, simmerknot_sheet};
-use second::model::evaluate;
+use second::host::{simmerknot_conflict, simmerknot_evaluate, simmerknot_sheet};
+use second::model::{conflict, evaluate};
 use second::random::{self, Chance, entry_bytes, table_bytes};
 use second::sheet::read_sheet;
 
@@ -52,6 +52,47 @@ fn refusal_2_counts_whole_words() {
     bytes.push(0);
     assert_eq!(simmerknot_evaluate(512, &bytes, &mut room), packed(2, 0));
     assert_eq!(simmerknot_evaluate(u64::MAX, &bytes, &mut values), packed(1, 0));
+}
+
+#[test]
+fn conflict_is_0_1_or_a_packed_refusal() {
+    // Both literals of atom 300, lines 32,768 and 0, facts; then the first alone.
+    let table = [0x58, 0x02, 0x00, 0x80, 0, 0, 0x59, 0x02, 0, 0, 0, 0];
+    assert_eq!(simmerknot_conflict(301, &table), 1);
+    assert_eq!(simmerknot_conflict(301, &table[..6]), 0);
+    assert_eq!(simmerknot_conflict(300, &table), packed(5, 0));
+    assert_eq!(simmerknot_conflict(513, &table), packed(1, 0));
+    assert_eq!(simmerknot_conflict(u64::MAX, &[]), packed(1, 0));
+    assert_eq!(simmerknot_conflict(0, &[]), 0);
+    assert_eq!(simmerknot_conflict(512, &[]), 0);
+    // No value room is asked for.
+    assert_eq!(simmerknot_evaluate(301, &table, &mut [7; 300]), packed(3, 0));
+}
+
+#[test]
+fn conflict_meets_a_lone_last_byte_after_the_whole_words() {
+    for lone in [0, 1, 255] {
+        assert_eq!(simmerknot_conflict(1, &[lone]), packed(4, 0));
+        assert_eq!(simmerknot_conflict(0, &[lone]), packed(4, 0));
+        // In conflict up to the lone byte.
+        assert_eq!(simmerknot_conflict(1, &[0, 0, 9, 0, 0, 0, 1, 0, 9, 0, 0, 0, lone]), packed(4, 6));
+        assert_eq!(simmerknot_conflict(1, &[0, 0, lone]), packed(4, 1));
+        assert_eq!(simmerknot_conflict(1, &[0, 0, 9, 0, 65, 0, lone]), packed(6, 2));
+        assert_eq!(simmerknot_conflict(1, &[0, 0, 0, 255, lone]), packed(6, 1));
+        assert_eq!(simmerknot_conflict(1, &[2, 0, lone]), packed(5, 0));
+        assert_eq!(simmerknot_conflict(1, &[0, 0, 9, 0, 0, 0, 0, 0, lone]), packed(7, 3));
+        assert_eq!(simmerknot_conflict(513, &[lone]), packed(1, 0));
+    }
+    let (_, words) = second::tables::max_t();
+    let mut bytes = table_bytes(&words);
+    assert_eq!(simmerknot_conflict(512, &bytes), 0);
+    bytes.push(0);
+    assert_eq!(simmerknot_conflict(512, &bytes), packed(4, 8192));
+    bytes.push(0);
+    assert_eq!(simmerknot_conflict(512, &bytes), packed(2, 0));
+    bytes.push(0);
+    assert_eq!(simmerknot_conflict(512, &bytes), packed(2, 0));
+    assert_eq!(simmerknot_conflict(513, &bytes), packed(1, 0));
 }
 
 #[test]
@@ -158,6 +199,36 @@ fn evaluation_on_bytes_equals_evaluation_on_words() {
         }
     }
     assert!(accepted > 600 && refused > 600 && lone > 150, "{accepted} {refused} {lone}");
+}
+
+#[test]
+fn conflict_on_bytes_equals_conflict_on_words() {
+    let (mut met, mut refused, mut lone) = ([0; 2], 0, 0);
+    for seed in 0..4000 {
+        let mut chance = Chance::new(seed);
+        let (n, words) = random::any_table(&mut chance);
+        let mut bytes = table_bytes(&words);
+        let odd = chance.one_in(5);
+        if odd {
+            bytes.push(chance.number() as u8);
+        }
+        let answer = simmerknot_conflict(n, &bytes);
+        match conflict(n, &words) {
+            Ok(_) if odd => {
+                assert_eq!(answer, packed(4, words.len() as u64), "seed {seed}");
+                lone += 1;
+            }
+            Ok(yes) => {
+                assert_eq!(answer, yes as u64, "seed {seed}");
+                met[yes as usize] += 1;
+            }
+            Err(refusal) => {
+                assert_eq!(answer, packed(refusal.number.into(), refusal.place), "seed {seed}");
+                refused += 1;
+            }
+        }
+    }
+    assert!(met.iter().all(|&count| count > 400) && refused > 800 && lone > 200, "{met:?} {refused} {lone}");
 }
 
 #[test]

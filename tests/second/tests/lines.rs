@@ -1,8 +1,8 @@
 //! No answer depends on a line: tables that differ only in line words, through every entry that is lent a table.
 
-use second::host::simmerknot_evaluate;
+use second::host::{simmerknot_conflict, simmerknot_evaluate};
 use second::marking::{MarkRecord, Picked, fresh, pick, report, settled};
-use second::model::evaluate;
+use second::model::{conflict, evaluate};
 use second::random::{self, ALL_LINES, Chance, Lines, table_bytes};
 use second::refusal::Refusal;
 use second::sheet::{contents, line_of};
@@ -21,9 +21,12 @@ struct Said {
     reports: Vec<Left<Result<(), Refusal>>>,
     evaluation: Left<Result<(), Refusal>>,
     host: Left<u64>,
+    conflict: Result<bool, Refusal>,
+    host_conflict: u64,
 }
 
-/// Picks from a fresh record or from one by hand, with questions and reports between them; then both evaluations.
+/// Picks from a fresh record or from one by hand, with questions and reports between them; then both evaluations, and the question of
+/// conflict in both ways.
 fn said(n: u64, words: &[u16], seed: u64) -> Said {
     let mut chance = Chance::new(seed);
     let mut record = if chance.one_in(2) { fresh(n).0 } else { random::record(&mut chance, n) };
@@ -40,13 +43,22 @@ fn said(n: u64, words: &[u16], seed: u64) -> Said {
     let mut host_room = room.clone();
     let answer = evaluate(n, words, &mut room);
     let host = simmerknot_evaluate(n, &table_bytes(words), &mut host_room);
-    Said { check: check(n, words), picks, settled: asked, reports, evaluation: (answer, room), host: (host, host_room) }
+    Said {
+        check: check(n, words),
+        picks,
+        settled: asked,
+        reports,
+        evaluation: (answer, room),
+        host: (host, host_room),
+        conflict: conflict(n, words),
+        host_conflict: simmerknot_conflict(n, &table_bytes(words)),
+    }
 }
 
 #[test]
 fn tables_that_differ_only_in_lines_have_equal_answers() {
     let (mut pairs, mut lines, mut values) = (0, 0, [0; 4]);
-    let (mut marked, mut reported, mut unsettled, mut small) = (0, 0, 0, 0);
+    let (mut marked, mut reported, mut unsettled, mut small, mut conflicts) = (0, 0, 0, 0, [0; 2]);
     for seed in 0..3000 {
         let mut chance = Chance::new(seed);
         let (n, words) = random::accepted_table(&mut chance);
@@ -70,9 +82,12 @@ fn tables_that_differ_only_in_lines_have_equal_answers() {
         reported += one.reports.iter().filter(|(answer, _)| answer.is_ok()).count();
         unsettled += one.reports.iter().filter(|(answer, _)| *answer == Err(Refusal { number: 18, place: 0 })).count();
         small += (one.host.0 == 3 << 32) as u32;
+        assert_eq!(one.conflict.map(u64::from), Ok(one.host_conflict), "seed {seed}");
+        conflicts[one.host_conflict as usize] += 1;
     }
     assert!(pairs > 2000 && lines > 50_000 && values.iter().all(|&count| count > 5000), "{pairs} {lines} {values:?}");
     assert!(marked > 2000 && reported > 5000 && unsettled > 5000 && small > 200, "{marked} {reported} {unsettled} {small}");
+    assert!(conflicts.iter().all(|&count| count > 700), "{conflicts:?}");
 }
 
 #[test]

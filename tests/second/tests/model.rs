@@ -1,10 +1,11 @@
-//! Held, Clean and evaluation against the judge.
+//! Held, Clean, evaluation and the question of conflict against the judge.
 
-use second::judge;
-use second::model::{clean, evaluate, held, markable, settle, values_of};
+use second::judge::{self, Interpretation};
+use second::marking::{fresh, settled};
+use second::model::{clean, conflict, evaluate, held, markable, settle, values_of};
 use second::random::{self, Chance};
 use second::refusal::Refusal;
-use second::table::{Rule, rules_of};
+use second::table::{Rule, check, encode, numbered, rules_of};
 use second::tables::written;
 use second::truth::{F, I, T, U};
 
@@ -165,7 +166,117 @@ fn random_tables_of_any_kind_are_evaluated_or_refused() {
     assert!(numbers.values().all(|&count| count > 50) && numbers[&0] > 800, "{numbers:?}");
 }
 
-/// Compares evaluation with the judge on every table that gives each literal one of these bodies, or no rule.
+/// Whether rules in document 01's notation are in conflict.
+fn in_conflict(rules: &[&str]) -> bool {
+    let table = written(rules);
+    conflict(table.n(), &table.words()).unwrap()
+}
+
+#[test]
+fn conflict_is_an_atom_with_both_literals_held_before_any_mark() {
+    assert!(in_conflict(&["a", "-a"]));
+    assert!(in_conflict(&["b", "a: b", "-a: b"]));
+    assert!(in_conflict(&["b", "c", "-b: a", "a: c"]));
+    // Both signs have a rule, but not both fire.
+    assert!(!in_conflict(&["a", "-a: b"]));
+    assert!(!in_conflict(&["a: b", "-a: b"]));
+    assert!(!in_conflict(&["a", "-a: a -a"]));
+    // Nothing is held: P2's {b, -b} is well-supported, but not the smallest.
+    assert!(!in_conflict(&["-b: b"]));
+    assert!(!in_conflict(&["a: -a", "-a: a"]));
+    // a is in conflict, and all that is inconsistent after its mark was consistent before it.
+    assert!(in_conflict(&["a", "-a", "b: a", "h", "-h: -b"]));
+    assert!(!in_conflict(&["a", "b: a", "h", "-h: -b"]));
+    assert_eq!(conflict(0, &[]), Ok(false));
+    assert_eq!(conflict(512, &[]), Ok(false));
+}
+
+#[test]
+fn conflict_refuses_in_order_1_2_words() {
+    let refused = |number, place| Err(Refusal { number, place });
+    for n in [513, 1 << 16, 1 << 32, (1 << 32) + 1, 1 << 63, u64::MAX] {
+        assert_eq!(conflict(n, &[]), refused(1, 0), "{n}");
+        assert_eq!(conflict(n, &[9; 8193]), refused(1, 0), "{n}");
+        assert_eq!(conflict(n, &[0, 40_000, 0]), refused(1, 0), "{n}");
+    }
+    assert_eq!(conflict(2, &[9; 8193]), refused(2, 0));
+    assert_eq!(conflict(0, &[0; 8193]), refused(2, 0));
+    // In conflict up to the fault: the words decide all the same.
+    assert_eq!(conflict(1, &[0, 1, 0, 1, 2, 0, 2, 3, 0]), refused(5, 6));
+    assert_eq!(conflict(1, &[0, 1, 0, 1, 2, 0, 1, 40_000, 0]), refused(7, 6));
+    assert_eq!(conflict(1, &[0, 1, 0, 1, 32_769, 65]), refused(6, 4));
+    assert_eq!(conflict(1, &[0, 1, 0, 1, 2, 65]), refused(6, 5));
+    assert_eq!(conflict(1, &[0, 1, 0, 1, 2]), refused(4, 5));
+    assert_eq!(conflict(1, &[0, 1, 0, 1, 32_768, 0]), Ok(true));
+}
+
+#[test]
+fn conflict_of_one_atom_out_of_512_is_found_whichever_it_is() {
+    for atom in 0..512 {
+        // Every atom has one literal as a fact, this one both, the second one last.
+        let mut words: Vec<u16> = (0..512).flat_map(|other| [2 * other + other % 2, other + 1, 0]).collect();
+        assert_eq!(conflict(512, &words), Ok(false), "{atom}");
+        words.extend([2 * atom + 1 - atom % 2, 513, 0]);
+        assert_eq!(conflict(512, &words), Ok(true), "{atom}");
+        assert_eq!(conflict(atom as u64 + 1, &[2 * atom, 0, 0, 2 * atom + 1, 0, 0]), Ok(true), "{atom}");
+    }
+}
+
+/// Whether some atom has both literals in the set.
+fn has_pair(n: usize, set: Interpretation) -> bool {
+    (0..n).any(|atom| judge::value(set, 2 * atom) == I)
+}
+
+#[test]
+fn conflict_is_what_the_judge_finds() {
+    let (mut met, mut spread, mut other_model) = ([0; 2], 0, 0);
+    for seed in 0..30_000 {
+        let mut chance = Chance::new(0xc0f1 + seed);
+        let most_atoms = if seed % 20 == 0 { 6 } else { 4 };
+        let (n, words) = random::small_table(&mut chance, most_atoms);
+        let rules = rules_of(n, &words).unwrap();
+        let models = judge::well_supported_models(n as usize, &rules);
+        let least = judge::smallest(&models).expect("a smallest well-supported model");
+        let before_any_mark = judge::held(n as usize, &rules, 0);
+        let yes = conflict(n, &words).unwrap();
+        assert_eq!(yes, has_pair(n as usize, least), "seed {seed}, {rules:?}");
+        assert_eq!(yes, has_pair(n as usize, before_any_mark), "seed {seed}, {rules:?}");
+        assert_eq!(yes, settled(&fresh(n).0, &words) == Ok(false), "seed {seed}, {rules:?}");
+        met[yes as usize] += 1;
+        // Atoms that are inconsistent in the end, but not before any mark.
+        let pairs = |set| (0..n as usize).filter(|atom| judge::value(set, 2 * atom) == I).count();
+        spread += (pairs(least) > pairs(before_any_mark)) as u32;
+        other_model += (!yes && models.iter().any(|&model| has_pair(n as usize, model))) as u32;
+    }
+    assert!(met.iter().all(|&count| count > 8_000) && spread > 1_500 && other_model > 8_000, "{met:?} {spread} {other_model}");
+}
+
+#[test]
+fn conflict_of_any_table_is_refused_as_its_check_or_told_by_evaluation() {
+    let mut numbers = std::collections::BTreeMap::new();
+    let mut met = [0; 2];
+    for seed in 0..6_000 {
+        let (n, words) = random::any_table(&mut Chance::new(seed));
+        match conflict(n, &words) {
+            Ok(yes) => {
+                let mut values = vec![9; n as usize];
+                assert_eq!(evaluate(n, &words, &mut values), Ok(()), "seed {seed}");
+                assert_eq!(yes, values.contains(&I), "seed {seed}");
+                assert_eq!(yes, settled(&fresh(n).0, &words) == Ok(false), "seed {seed}");
+                met[yes as usize] += 1;
+            }
+            Err(refusal) => {
+                assert_eq!(check(n, &words), Err(refusal), "seed {seed}");
+                *numbers.entry(refusal.number).or_insert(0) += 1;
+            }
+        }
+    }
+    assert_eq!(numbers.keys().copied().collect::<Vec<_>>(), [1, 2, 4, 5, 6, 7]);
+    assert!(numbers.values().all(|&count| count > 200) && met.iter().all(|&count| count > 800), "{numbers:?} {met:?}");
+}
+
+/// Compares evaluation and the question of conflict with the judge on every table that gives each literal one of these bodies, or no
+/// rule.
 fn compare_all(n: usize, bodies: &[Option<Vec<Vec<usize>>>]) -> u32 {
     let heads = 2 * n;
     let mut met = 0;
@@ -180,6 +291,7 @@ fn compare_all(n: usize, bodies: &[Option<Vec<Vec<usize>>>]) -> u32 {
         }
         let values = values_of(&rules, &settle(n as u64, &rules).unwrap());
         let least = judge::smallest(&judge::well_supported_models(n, &rules));
+        assert_eq!(conflict(n as u64, &encode(&numbered(&rules))).ok(), least.map(|set| has_pair(n, set)), "{rules:?}");
         assert_eq!(Some(values), least.map(|set| judge::values(n, set)), "{rules:?}");
         met += 1;
     }
