@@ -54,6 +54,9 @@ uint64_t probe_mark_count(uint64_t n, const uint64_t marks[8]);
 /* 0: the first N bytes of `values` are the values; refuses 1, 2, 3, words, 19. */
 uint64_t probe_evaluate(uint64_t n, const uint16_t *table, size_t words, uint8_t *values, size_t values_len);
 
+/* 0: no, 1: yes; refuses 1, 2, words. */
+uint64_t probe_conflict(uint64_t n, const uint16_t *table, size_t words);
+
 /* The reading at `*place`: 0 the end, 2 a head, 4 first of a group, 6 further in a group, 1 more if it is negated; refuses
  * 8, 10, 11. `*place` is the next place afterwards, `*start` and `*len` the name's place and length, 0 where there is none. */
 uint64_t probe_reading(const uint8_t *sheet, size_t sheet_len, size_t *place, size_t *start, size_t *len);

@@ -13,6 +13,9 @@ pub const MARKED: u64 = 0;
 pub const ALREADY_MARKED: u64 = 1;
 pub const CANNOT_BE_MARKED_NOW: u64 = 2;
 
+pub const NO: u64 = 0;
+pub const YES: u64 = 1;
+
 unsafe extern "C" {
     safe fn probe_and(v: u64, w: u64) -> u64;
     safe fn probe_or(v: u64, w: u64) -> u64;
@@ -25,6 +28,7 @@ unsafe extern "C" {
     fn probe_report(n: u64, marks: *const u64, table: *const u16, words: usize, values: *mut u8, room: usize) -> u64;
     fn probe_mark_count(n: u64, marks: *const u64) -> u64;
     fn probe_evaluate(n: u64, table: *const u16, words: usize, values: *mut u8, room: usize) -> u64;
+    fn probe_conflict(n: u64, table: *const u16, words: usize) -> u64;
 }
 
 /// A packed number taken apart: from 2^32 on a refusal.
@@ -48,6 +52,7 @@ pub trait Entries {
     fn report(&self, record: &MarkRecord, words: &[u16], values: &mut [u8]) -> Answer;
     fn mark_count(&self, record: &MarkRecord) -> Answer;
     fn evaluate(&self, n: u64, words: &[u16], values: &mut [u8]) -> Answer;
+    fn conflict(&self, n: u64, words: &[u16]) -> Answer;
 }
 
 /// The proved engine.
@@ -150,6 +155,10 @@ impl Entries for Engine {
         values.copy_from_slice(room.row());
         unpacked(answer)
     }
+
+    fn conflict(&self, n: u64, words: &[u16]) -> Answer {
+        unpacked(unsafe { probe_conflict(n, words.as_ptr(), words.len()) })
+    }
 }
 
 /// The second implementation.
@@ -205,5 +214,9 @@ impl Entries for Second {
 
     fn evaluate(&self, n: u64, words: &[u16], values: &mut [u8]) -> Answer {
         model::evaluate(n, words, values).map(|()| 0)
+    }
+
+    fn conflict(&self, n: u64, words: &[u16]) -> Answer {
+        model::conflict(n, words).map(u64::from)
     }
 }

@@ -1,7 +1,8 @@
-//! The host's two entries, over bytes.
+//! The host's three entries, over bytes.
 
 unsafe extern "C" {
     fn simmerknot_evaluate(n: u64, table: *const u8, table_len: usize, values: *mut u8, values_len: usize) -> u64;
+    fn simmerknot_conflict(n: u64, table: *const u8, table_len: usize) -> u64;
 
     fn simmerknot_sheet(
         sheet: *const u8,
@@ -23,6 +24,16 @@ pub fn evaluate(n: u64, table: &[u8], values: &mut [u8]) -> u64 {
 /// Evaluation with pointers that may be null where the length is 0.
 pub fn evaluate_nulls(n: u64) -> u64 {
     unsafe { simmerknot_evaluate(n, std::ptr::null(), 0, std::ptr::null_mut(), 0) }
+}
+
+/// The question of conflict, lent this very slice.
+pub fn conflict(n: u64, table: &[u8]) -> u64 {
+    unsafe { simmerknot_conflict(n, table.as_ptr(), table.len()) }
+}
+
+/// The question of conflict with a null pointer for an empty table.
+pub fn conflict_null(n: u64) -> u64 {
+    unsafe { simmerknot_conflict(n, std::ptr::null(), 0) }
 }
 
 /// The sheet entry, lent these very slices.

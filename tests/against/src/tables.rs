@@ -1,9 +1,10 @@
-//! What to note of a table: refusals that have to do with a line.
+//! What to note of a table, refusals that have to do with a line above all; and a table of any length.
 
 use second::random::{WordRole, word_roles};
 use second::refusal::*;
 
 use crate::cases::Tally;
+use crate::entries::{Answer, YES};
 
 /// 6 at a line word.
 pub const AT_A_LINE: &str = "6 at a line";
@@ -53,7 +54,39 @@ pub fn note<T>(tally: &mut Tally, what: &str, words: &[u16], answer: &Result<T, 
     }
 }
 
+/// Notes "what yes" or "what no", or a refusal as above.
+pub fn note_question(tally: &mut Tally, what: &str, words: &[u16], answer: &Answer) {
+    match answer {
+        Ok(said) => tally.note(&format!("{what} {}", if *said == YES { "yes" } else { "no" })),
+        Err(_) => note(tally, what, words, answer),
+    }
+}
+
 /// Each of these was met so many times.
 pub fn expect_of_lines(tally: &Tally, least: u64) {
     tally.expect_also(&OF_LINES.map(|what| (what, least)));
+}
+
+/// Facts, and a record that fills the table to exactly so many words.
+pub fn of_length(length: usize) -> Vec<u16> {
+    let mut words = Vec::new();
+    let mut head = 0;
+    while words.len() < length {
+        let room = length - words.len();
+        // A record has 3 words, or 4 + k with one group; the rest must allow that.
+        let k = match room {
+            3 => 0,
+            _ if room <= 68 => room - 4,
+            _ => 60,
+        };
+        words.extend([head, 32_768 - head]);
+        if k == 0 {
+            words.push(0);
+        } else {
+            words.extend([1, k as u16]);
+            words.extend((0..k as u16).map(|i| i % 1024));
+        }
+        head += 1;
+    }
+    words
 }

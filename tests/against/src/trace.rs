@@ -21,6 +21,8 @@ pub enum Step {
     Forge(MarkRecord),
     Pick { table: usize, atom: u64 },
     Settled { table: usize },
+    /// No record is lent: N is the step's own.
+    Conflict { n: u64, table: usize },
     /// The value room holds the bytes of `filling`, from a seed.
     Report { table: usize, room: usize, filling: u64 },
     Count,
@@ -85,11 +87,14 @@ pub fn parting(trace: &Trace, engine: &impl Entries, tally: &mut Tally) -> Optio
             Step::Settled { table } => {
                 let words = &trace.tables[table];
                 let right = Second.settled(&theirs, words);
-                match right {
-                    Ok(yes) => tally.note(if yes == 1 { "settled yes" } else { "settled no" }),
-                    Err(_) => tables::note(tally, "settled", words, &right),
-                }
+                tables::note_question(tally, "settled", words, &right);
                 (engine.settled(&ours, words), right)
+            }
+            Step::Conflict { n, table } => {
+                let words = &trace.tables[table];
+                let right = Second.conflict(n, words);
+                tables::note_question(tally, "conflict", words, &right);
+                (engine.conflict(n, words), right)
             }
             Step::Report { table, room, filling } => {
                 let words = &trace.tables[table];
@@ -184,6 +189,7 @@ fn simplify(trace: &mut Trace, step: usize, mut fails: impl FnMut(&Trace) -> boo
             let report = |room: u64| Step::Report { table, room: room as usize, filling };
             report(smaller(room as u64, |room| with(report(room))))
         }
+        Step::Conflict { n, table } => Step::Conflict { n: smaller(n, |n| with(Step::Conflict { n, table })), table },
         Step::Settled { table } => Step::Settled { table },
         Step::Count => Step::Count,
     };
@@ -227,8 +233,12 @@ pub fn random_trace(chance: &mut Chance, plan: Plan) -> Trace {
         let table = chance.index(tables.len());
         steps.push(match chance.below(100) {
             _ if chance.percent(plan.forged) => Step::Forge(forged(chance, n, &tables[table])),
-            0..60 => Step::Pick { table, atom: random::any_atom(chance, n) },
-            60..74 => Step::Settled { table },
+            0..56 => Step::Pick { table, atom: random::any_atom(chance, n) },
+            56..69 => Step::Settled { table },
+            69..74 => {
+                let n = if chance.one_in(6) { random::awkward_number(chance, n) } else { n };
+                Step::Conflict { n, table }
+            }
             74..90 => Step::Report { table, room: random::value_room(chance, n).len(), filling: chance.number() },
             90..98 => Step::Count,
             98 => Step::Fresh(n),

@@ -1,28 +1,42 @@
-//! The host's two entries through the C boundary: answers, every byte of every buffer, and guards around each.
+//! The host's three entries through the C boundary: answers, every byte of every buffer, and guards around each.
+
+use second::random::{self, Chance, table_bytes};
 
 /// The places a buffer is lent from: at an even address and at an odd one.
 const BEFORE: [usize; 2] = [16, 13];
 
+/// The bytes of a small table; once in three times with a byte anywhere set to anything or to a code, cut anywhere, or with a lone byte
+/// after it.
+fn small_bytes(chance: &mut Chance) -> (u64, Vec<u8>) {
+    let (n, words) = random::small_table(chance, 6);
+    let mut table = table_bytes(&words);
+    match chance.below(12) {
+        0 | 1 if !table.is_empty() => {
+            let at = chance.index(table.len());
+            table[at] = if chance.one_in(2) { chance.below(12) as u8 } else { chance.number() as u8 };
+        }
+        2 => table.truncate(chance.index(table.len() + 1)),
+        3 => table.push(chance.number() as u8),
+        _ => {}
+    }
+    (n, table)
+}
+
 mod evaluate {
-    use super::BEFORE;
+    use super::{BEFORE, small_bytes};
     use against::cases::{Tally, cases};
     use against::entries::unpacked;
     use against::guard::Guarded;
     use against::host;
     use against::shrink::{smaller, without_parts};
     use against::tables::{self, expect_of_lines};
-    use second::host::simmerknot_evaluate as second_evaluate;
+    use second::host::{simmerknot_evaluate as second_evaluate, whole_words};
     use second::random::{self, Chance, table_bytes};
     use second::tables::{EXAMPLES, MEASURED};
 
     const OUTCOMES: [&str; 8] = [
         "evaluate ok", "evaluate 1", "evaluate 2", "evaluate 3", "evaluate 4", "evaluate 5", "evaluate 6", "evaluate 7",
     ];
-
-    /// The whole words of a table's bytes.
-    fn words_of(table: &[u8]) -> Vec<u16> {
-        table.chunks_exact(2).map(|pair| u16::from_le_bytes([pair[0], pair[1]])).collect()
-    }
 
     /// The engine's packed answer and the value room after it.
     fn engine(n: u64, table: &[u8], room: &[u8], before: usize) -> (u64, Vec<u8>) {
@@ -43,7 +57,7 @@ mod evaluate {
     /// Both sides answer the same and leave the same bytes; if not, the smallest table found is shown.
     fn compare(n: u64, table: &[u8], room: &[u8], before: usize, tally: &mut Tally) {
         let expected = second(n, table, room);
-        tables::note(tally, "evaluate", &words_of(table), &unpacked(expected.0));
+        tables::note(tally, "evaluate", &whole_words(table).0, &unpacked(expected.0));
         if engine(n, table, room, before) != expected {
             let differ = |n: u64, table: &[u8]| engine(n, table, room, before) != second(n, table, room);
             let table = without_parts(table, |table| differ(n, table));
@@ -76,18 +90,7 @@ mod evaluate {
         let mut chance = Chance::new(0x4058);
         let mut tally = Tally::default();
         for _ in 0..cases(1_200_000) {
-            let (n, words) = random::small_table(&mut chance, 6);
-            let mut table = table_bytes(&words);
-            match chance.below(12) {
-                // A byte anywhere set to anything or to a code, the table cut anywhere, or a lone byte after it.
-                0 | 1 if !table.is_empty() => {
-                    let at = chance.index(table.len());
-                    table[at] = if chance.one_in(2) { chance.below(12) as u8 } else { chance.number() as u8 };
-                }
-                2 => table.truncate(chance.index(table.len() + 1)),
-                3 => table.push(chance.number() as u8),
-                _ => {}
-            }
+            let (n, table) = small_bytes(&mut chance);
             let room = random::value_room(&mut chance, n);
             compare(n, &table, &room, chance.of(&BEFORE), &mut tally);
         }
@@ -174,6 +177,147 @@ mod evaluate {
             }
         }
         tally.expect(&["evaluate ok", "evaluate 1", "evaluate 3", "evaluate 5", "evaluate 6"], 10);
+    }
+}
+
+mod conflict {
+    use super::{BEFORE, small_bytes};
+    use against::cases::{Tally, cases};
+    use against::entries::unpacked;
+    use against::guard::Guarded;
+    use against::host;
+    use against::shrink::{smaller, without_parts};
+    use against::tables::{self, expect_of_lines};
+    use second::host::{simmerknot_conflict as second_conflict, whole_words};
+    use second::random::{self, Chance, table_bytes};
+    use second::tables::{EXAMPLES, MEASURED};
+    use second::truth::I;
+
+    const OUTCOMES: [&str; 8] = [
+        "conflict yes", "conflict no", "conflict 4", "conflict 5", "conflict 6", "conflict 7", "conflict 1", "conflict 2",
+    ];
+
+    /// The engine's packed answers: asked, and by a value i of its evaluation in a room of its own.
+    fn engine(n: u64, table: &[u8], before: usize) -> [u64; 2] {
+        let table = Guarded::new(table, before);
+        let lent = table.clone();
+        let asked = host::conflict(n, table.row());
+        assert!(table == lent, "the table was altered");
+        let mut values = vec![9; n.min(512) as usize];
+        let evaluated = host::evaluate(n, table.row(), &mut values);
+        [asked, if evaluated == 0 { u64::from(values.contains(&I)) } else { evaluated }]
+    }
+
+    /// The engine says in both ways what the second implementation does; if not, the smallest table found is shown.
+    fn compare(n: u64, table: &[u8], before: usize, tally: &mut Tally) -> u64 {
+        let expected = second_conflict(n, table);
+        tables::note_question(tally, "conflict", &whole_words(table).0, &unpacked(expected));
+        if engine(n, table, before) != [expected; 2] {
+            let differ = |n: u64, table: &[u8]| engine(n, table, before) != [second_conflict(n, table); 2];
+            let table = without_parts(table, |table| differ(n, table));
+            let n = smaller(n, |n| differ(n, &table));
+            let (ours, theirs) = (engine(n, &table, before).map(unpacked), unpacked(second_conflict(n, &table)));
+            panic!("N {n}, table {table:?}: engine {ours:?}, second {theirs:?}");
+        }
+        expected
+    }
+
+    #[test]
+    fn random_and_damaged_tables() {
+        let mut chance = Chance::new(0x405a);
+        let mut tally = Tally::default();
+        for _ in 0..cases(30_000) {
+            let (n, words) = random::any_table(&mut chance);
+            let mut table = table_bytes(&words);
+            if chance.one_in(8) {
+                table.push(chance.number() as u8);
+            }
+            compare(n, &table, chance.of(&BEFORE), &mut tally);
+        }
+        tally.expect(&OUTCOMES, cases(1_000));
+        expect_of_lines(&tally, cases(150));
+    }
+
+    #[test]
+    fn small_tables() {
+        let mut chance = Chance::new(0x405b);
+        let mut tally = Tally::default();
+        for _ in 0..cases(800_000) {
+            let (n, table) = small_bytes(&mut chance);
+            compare(n, &table, chance.of(&BEFORE), &mut tally);
+        }
+        tally.expect(&OUTCOMES[..6], cases(300));
+    }
+
+    #[test]
+    fn p1_to_p12_and_the_measured_tables() {
+        let mut tally = Tally::default();
+        let tables = EXAMPLES.iter().map(|example| (example.table().n(), example.table().words()));
+        for (n, words) in tables.chain(MEASURED.iter().map(|measured| (measured.table)())) {
+            let answers = BEFORE.map(|before| compare(n, &table_bytes(&words), before, &mut tally));
+            assert!(answers[0] == answers[1] && answers[0] <= 1, "{answers:?}");
+        }
+        tally.expect(&OUTCOMES[..2], 2 * 8);
+    }
+
+    #[test]
+    fn length_0_with_a_null_pointer() {
+        for n in [0, 1, 512, 513, 1 << 32, u64::MAX] {
+            assert_eq!(host::conflict_null(n), second_conflict(n, &[]), "N {n}");
+        }
+        assert_eq!(host::conflict_null(0), 0);
+        assert_eq!(host::conflict_null(512), 0);
+        assert_eq!(host::conflict_null(513), 1 << 32);
+    }
+
+    #[test]
+    fn a_lone_byte_is_met_after_the_whole_words() {
+        let mut tally = Tally::default();
+        // Full tables, without a conflict and with one.
+        for words in [second::tables::max_t().1, second::tables::max_random().1] {
+            let full = table_bytes(&words);
+            assert_eq!(full.len(), 16_384);
+            for more in 0..4 {
+                let table = [&full[..], &vec![0; more]].concat();
+                let answer = compare(512, &table, 16, &mut tally);
+                assert_eq!(answer >> 32, [0, 4, 2, 2][more]);
+                assert_eq!(compare(513, &table, 13, &mut tally), 1 << 32);
+            }
+            for cut in (0..full.len()).filter(|cut| cut % 7 == 0 || *cut < 300 || *cut > 16_000) {
+                compare(512, &full[..cut], BEFORE[cut % 2], &mut tally);
+            }
+        }
+        // N 1, in conflict and a byte: 4 at 6. Words 0, 9, 65 and a byte: 6 at 2. Words 0, 32,769 and a byte: 6 at 1.
+        for lone in [0, 7, 255] {
+            let pair = [0, 0, 9, 0, 0, 0, 1, 0, 9, 0, 0, 0];
+            assert_eq!(compare(1, &pair, 13, &mut tally), 1);
+            assert_eq!(compare(1, &[&pair[..], &[lone]].concat(), 13, &mut tally), (4 << 32) + 6);
+            assert_eq!(compare(1, &[lone], 13, &mut tally), 4 << 32);
+            assert_eq!(compare(1, &[0, 0, 9, 0, 65, 0, lone], 13, &mut tally), (6 << 32) + 2);
+            assert_eq!(compare(1, &[0, 0, 1, 128, lone], 13, &mut tally), (6 << 32) + 1);
+            assert_eq!(compare(1, &[2, 0, lone], 13, &mut tally), 5 << 32);
+            assert_eq!(compare(1, &[&pair[..6], &[0, 0, lone]].concat(), 13, &mut tally), (7 << 32) + 3);
+            assert_eq!(compare(1 << 32, &[lone], 13, &mut tally), 1 << 32);
+        }
+        tally.expect(&OUTCOMES, 3);
+    }
+
+    #[test]
+    fn awkward_numbers_of_atoms() {
+        let mut tally = Tally::default();
+        let ns = [0, 1, 255, 256, 257, 511, 512, 513, 1 << 16, 1 << 31, 1 << 32, (1 << 32) + 1, (1 << 32) + 512, 1 << 63, u64::MAX];
+        for n in ns {
+            for atom in [0, 127, 128, 255, 256, 511, 512, 32_767] {
+                let (p, q) = (2 * atom, 2 * atom + 1);
+                for words in [&[][..], &[p, 0, 0], &[p, 1, 0, q, 32_768, 0], &[p, 1, 0, q, 32_769, 0], &[p, 1, 0, p, 1, 0], &[q, 1]] {
+                    for before in BEFORE {
+                        compare(n, &table_bytes(words), before, &mut tally);
+                        compare(n, &[&table_bytes(words)[..], &[1]].concat(), before, &mut tally);
+                    }
+                }
+            }
+        }
+        tally.expect(&OUTCOMES[..7], 10);
     }
 }
 

@@ -1,26 +1,40 @@
 //! Accepted tables that differ only in line words: the engine answers the same and leaves the same, and so does the second implementation.
 
 use against::cases::cases;
-use against::entries::{Answer, Engine, Entries, MARKED, Second};
+use against::entries::{Answer, Engine, Entries, MARKED, Second, unpacked};
 use against::guard::Guarded;
 use against::host;
-use second::host::simmerknot_evaluate as second_evaluate;
+use second::host::{simmerknot_conflict, simmerknot_evaluate};
 use second::marking::MarkRecord;
 use second::random::{self, ALL_LINES, Chance, table_bytes};
 use second::refusal::Refusal;
 use second::table::{encode, rules_of};
 use second::tables::{EXAMPLES, MEASURED};
 
-/// The host's evaluation of one side.
-type Host = fn(u64, &[u8], &mut [u8]) -> u64;
+/// The host's entries of one side that are lent a table.
+struct Host {
+    evaluate: fn(u64, &[u8], &mut [u8]) -> u64,
+    conflict: fn(u64, &[u8]) -> u64,
+}
 
-fn engine_host(n: u64, table: &[u8], values: &mut [u8]) -> u64 {
+const ENGINE_HOST: Host = Host { evaluate: engine_evaluate, conflict: engine_conflict };
+
+const SECOND_HOST: Host = Host { evaluate: simmerknot_evaluate, conflict: simmerknot_conflict };
+
+fn engine_evaluate(n: u64, table: &[u8], values: &mut [u8]) -> u64 {
     let lent = Guarded::new(table, 13);
     let mut room = Guarded::new(values, 13);
     let answer = host::evaluate(n, lent.row(), room.row_mut());
     room.check();
     assert!(lent == Guarded::new(table, 13), "the table was altered");
     values.copy_from_slice(room.row());
+    answer
+}
+
+fn engine_conflict(n: u64, table: &[u8]) -> u64 {
+    let lent = Guarded::new(table, 13);
+    let answer = host::conflict(n, lent.row());
+    assert!(lent == Guarded::new(table, 13), "the table was altered");
     answer
 }
 
@@ -33,9 +47,12 @@ struct Said {
     reports: Vec<(Answer, Vec<u8>)>,
     evaluation: (Answer, Vec<u8>),
     host: (u64, Vec<u8>),
+    conflict: Answer,
+    host_conflict: u64,
 }
 
-/// Picks from a fresh record or from one by hand, with questions and reports between them; then both evaluations.
+/// Picks from a fresh record or from one by hand, with questions and reports between them; then both evaluations, and the question of
+/// conflict in both ways.
 fn said(side: &impl Entries, host: Host, n: u64, words: &[u16], seed: u64, picks_made: u64) -> Said {
     let mut chance = Chance::new(seed);
     let mut record = if chance.one_in(2) { side.fresh(n).0 } else { random::record(&mut chance, n) };
@@ -51,17 +68,27 @@ fn said(side: &impl Entries, host: Host, n: u64, words: &[u16], seed: u64, picks
     let mut room = random::value_room(&mut chance, n);
     let mut host_room = room.clone();
     let evaluated = side.evaluate(n, words, &mut room);
-    let hosted = host(n, &table_bytes(words), &mut host_room);
-    Said { check: side.check(n, words), picks, settled, reports, evaluation: (evaluated, room), host: (hosted, host_room) }
+    let hosted = (host.evaluate)(n, &table_bytes(words), &mut host_room);
+    Said {
+        check: side.check(n, words),
+        picks,
+        settled,
+        reports,
+        evaluation: (evaluated, room),
+        host: (hosted, host_room),
+        conflict: side.conflict(n, words),
+        host_conflict: (host.conflict)(n, &table_bytes(words)),
+    }
 }
 
 /// Both tables through both sides; what they all say.
 fn compare(n: u64, words: &[u16], other: &[u16], seed: u64, picks: u64) -> Said {
-    let expected = said(&Second, second_evaluate, n, words, seed, picks);
-    assert_eq!(said(&Second, second_evaluate, n, other, seed, picks), expected, "second: N {n}, {words:?}, {other:?}");
+    let expected = said(&Second, SECOND_HOST, n, words, seed, picks);
+    assert_eq!(said(&Second, SECOND_HOST, n, other, seed, picks), expected, "second: N {n}, {words:?}, {other:?}");
     for words in [words, other] {
-        assert_eq!(said(&Engine, engine_host, n, words, seed, picks), expected, "engine: N {n}, {words:?}");
+        assert_eq!(said(&Engine, ENGINE_HOST, n, words, seed, picks), expected, "engine: N {n}, {words:?}");
     }
+    assert_eq!(expected.conflict, unpacked(expected.host_conflict), "N {n}, {words:?}");
     expected
 }
 
@@ -76,6 +103,7 @@ struct Met {
     reports: u64,
     before_settled: u64,
     rooms_too_small: u64,
+    conflicts: [u64; 2],
 }
 
 impl Met {
@@ -90,6 +118,7 @@ impl Met {
         self.reports += said.reports.iter().filter(|(answer, _)| answer.is_ok()).count() as u64;
         self.before_settled += said.reports.iter().filter(|(answer, _)| *answer == Err(Refusal { number: 18, place: 0 })).count() as u64;
         self.rooms_too_small += (said.host.0 == 3 << 32) as u64;
+        self.conflicts[said.host_conflict as usize] += 1;
     }
 }
 
@@ -118,6 +147,7 @@ fn small_tables() {
     assert!(met.values.iter().all(|&count| count > cases(5_000)) && met.marks > cases(10_000), "{met:?}");
     assert!(met.settled.iter().all(|&count| count > cases(30_000)) && met.reports > cases(100_000), "{met:?}");
     assert!(met.before_settled > cases(20_000) && met.rooms_too_small > cases(2_000), "{met:?}");
+    assert!(met.conflicts.iter().all(|&count| count > cases(5_000)), "{met:?}");
 }
 
 #[test]
@@ -126,6 +156,7 @@ fn large_tables() {
     assert!(met.pairs > cases(100) && met.lines > cases(10_000), "{met:?}");
     assert!(met.values.iter().all(|&count| count > cases(1_000)) && met.marks > cases(50), "{met:?}");
     assert!(met.settled.iter().all(|&count| count > cases(50)) && met.reports > cases(50) && met.before_settled > cases(500), "{met:?}");
+    assert!(met.conflicts.iter().all(|&count| count > cases(10)), "{met:?}");
 }
 
 #[test]

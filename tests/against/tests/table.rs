@@ -4,7 +4,7 @@ use against::cases::{Tally, cases};
 use against::entries::{Engine, Entries, Second};
 use against::guard::Guarded;
 use against::shrink::{smaller, smaller_table};
-use against::tables::{self, AT_A_LINE, CUT_AFTER_HEAD, CUT_AFTER_LINE, expect_of_lines};
+use against::tables::{self, AT_A_LINE, CUT_AFTER_HEAD, CUT_AFTER_LINE, expect_of_lines, of_length};
 use second::random::{self, Chance, TABLE_DAMAGES, TableDamage};
 use second::refusal::Refusal;
 use second::tables::MEASURED;
@@ -123,30 +123,6 @@ fn awkward_numbers_of_atoms() {
         compare(n, &long, &mut tally);
     }
     tally.expect(&["check ok", "check 1", "check 2", "check 4", "check 5", "check 7"], 5);
-}
-
-/// Facts, and a record that fills the table to exactly so many words.
-fn of_length(length: usize) -> Vec<u16> {
-    let mut words = Vec::new();
-    let mut head = 0;
-    while words.len() < length {
-        let room = length - words.len();
-        // A record has 3 words, or 4 + k with one group; the rest must allow that.
-        let k = match room {
-            3 => 0,
-            _ if room <= 68 => room - 4,
-            _ => 60,
-        };
-        words.extend([head, 32_768 - head]);
-        if k == 0 {
-            words.push(0);
-        } else {
-            words.extend([1, k as u16]);
-            words.extend((0..k as u16).map(|i| i % 1024));
-        }
-        head += 1;
-    }
-    words
 }
 
 #[test]

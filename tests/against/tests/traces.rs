@@ -1,4 +1,4 @@
-//! Random traces of picks, settled questions, reports and counts under one record.
+//! Random traces of picks, settled questions, reports and counts under one record, with questions of conflict between them.
 
 use against::cases::{Tally, cases};
 use against::entries::{ALREADY_MARKED, CANNOT_BE_MARKED_NOW, Engine, Entries, Second};
@@ -21,7 +21,7 @@ fn replay(seed: u64, count: u64, plan: Plan) -> Tally {
     tally
 }
 
-const ACCEPTED: [&str; 8] = [
+const ACCEPTED: [&str; 10] = [
     "fresh ok",
     "pick marked",
     "pick already marked",
@@ -30,15 +30,17 @@ const ACCEPTED: [&str; 8] = [
     "settled no",
     "report ok",
     "count ok",
+    "conflict yes",
+    "conflict no",
 ];
 
-const PLAIN_REFUSALS: [&str; 4] = ["fresh 1", "pick 16", "report 3", "report 18"];
+const PLAIN_REFUSALS: [&str; 5] = ["fresh 1", "pick 16", "report 3", "report 18", "conflict 1"];
 
-const AFTER_FRESH: [&str; 3] = ["pick 5", "settled 5", "report 5"];
+const AFTER_FRESH: [&str; 4] = ["pick 5", "settled 5", "report 5", "conflict 5"];
 
-const WORDS: [&str; 15] = [
+const WORDS: [&str; 20] = [
     "pick 2", "pick 4", "pick 5", "pick 6", "pick 7", "settled 2", "settled 4", "settled 5", "settled 6", "settled 7",
-    "report 2", "report 4", "report 5", "report 6", "report 7",
+    "report 2", "report 4", "report 5", "report 6", "report 7", "conflict 2", "conflict 4", "conflict 5", "conflict 6", "conflict 7",
 ];
 
 const RECORDS: [&str; 8] =
@@ -48,7 +50,7 @@ const RECORDS: [&str; 8] =
 fn one_small_table() {
     let plan = Plan { table: |chance| random::small_table(chance, 6), tables: 1, damaged: 0, forged: 0, steps: 60 };
     let tally = replay(1 << 40, cases(60_000), plan);
-    // After a fresh record for another N, literals may be too high.
+    // After a fresh record for another N, or by a question with another, literals may be too high.
     tally.expect(&[&ACCEPTED[..], &PLAIN_REFUSALS, &AFTER_FRESH].concat(), cases(1_000));
 }
 

@@ -1,13 +1,14 @@
 //! Engines that are wrong on purpose part from the second implementation in random traces, or on random sheets, and these shrink.
 
 use against::cases::Tally;
-use against::entries::{ALREADY_MARKED, Answer, Entries, MARKED, Second};
+use against::entries::{ALREADY_MARKED, Answer, Entries, MARKED, NO, Second, YES};
 use against::trace::{Plan, Trace, parting, random_trace, shortest};
 use second::marking::MarkRecord;
 use second::random::{self, Chance, WordRole, line_places, word_roles};
 use second::refusal::Refusal;
+use second::truth::I;
 
-/// Wrong answers of marking by picks, and of reading the words of a table.
+/// Wrong answers of marking by picks, of reading the words of a table, and to the question of conflict.
 #[derive(Clone, Copy, Debug, PartialEq, Eq)]
 enum Wrong {
     PickNeverMarks,
@@ -25,10 +26,20 @@ enum Wrong {
     LineCheckedAfterM,
     LineReadAsM,
     RecordByHandLeftOut,
+    NeverInConflict,
+    AlwaysInConflict,
+    ConflictOfAtom0Alone,
+    ConflictOfTheLastAtomOverlooked,
+    ConflictByALiteralHeldAndNotClean,
+    ConflictWhereBothSignsHaveARule,
+    ConflictBeforeAFaultyWord,
+    ConflictWithWordsBefore1,
+    ConflictWithWordsBefore2,
+    ConflictWith2Before1,
 }
 
 /// Each beside the most steps of its shortest trace.
-const WRONG: [(Wrong, usize); 15] = [
+const WRONG: [(Wrong, usize); 23] = [
     (Wrong::PickNeverMarks, 2),
     (Wrong::FirstPickMarksEverything, 2),
     (Wrong::MadeUpCount, 4),
@@ -44,7 +55,18 @@ const WRONG: [(Wrong, usize); 15] = [
     (Wrong::LineCheckedAfterM, 2),
     (Wrong::LineReadAsM, 2),
     (Wrong::RecordByHandLeftOut, 3),
+    (Wrong::NeverInConflict, 1),
+    (Wrong::AlwaysInConflict, 1),
+    (Wrong::ConflictOfAtom0Alone, 1),
+    (Wrong::ConflictOfTheLastAtomOverlooked, 1),
+    (Wrong::ConflictByALiteralHeldAndNotClean, 1),
+    (Wrong::ConflictWhereBothSignsHaveARule, 1),
+    (Wrong::ConflictBeforeAFaultyWord, 1),
+    (Wrong::ConflictWithWordsBefore1, 1),
 ];
+
+/// Noticed by tables above 8,192 words alone, which cannot shrink below that.
+const WRONG_OF_LONG_TABLES: [Wrong; 2] = [Wrong::ConflictWithWordsBefore2, Wrong::ConflictWith2Before1];
 
 fn mark(record: &mut MarkRecord, atom: u64) {
     if atom < record.n.min(512) {
@@ -87,6 +109,36 @@ fn without_records_by_hand(n: u64, words: &[u16]) -> Vec<u16> {
         }
         Err(_) => words.to_vec(),
     }
+}
+
+/// The values of an accepted table.
+fn values(n: u64, words: &[u16]) -> Vec<u8> {
+    let mut values = vec![9; n as usize];
+    Second.evaluate(n, words, &mut values).expect("an accepted table");
+    values
+}
+
+/// Whether an atom can be marked after a mark by hand at atom 0, and so also one with only one literal held, which is not clean.
+fn markable_after_a_mark(n: u64, words: &[u16]) -> bool {
+    let mut record = MarkRecord { n, marks: [0; 8] };
+    mark(&mut record, 0);
+    Second.settled(&record, words) == Ok(NO)
+}
+
+fn both_signs_have_a_rule(n: u64, words: &[u16]) -> bool {
+    let rules = second::table::rules_of(n, words).expect("an accepted table");
+    rules.iter().any(|rule| rules.iter().any(|other| other.head == second::table::negation(rule.head)))
+}
+
+/// The first faulty word, if there is one.
+fn fault(n: u64, words: &[u16]) -> Option<Refusal> {
+    second::table::parse(n, words).err()
+}
+
+/// The records in front of the one with a faulty word.
+fn sound_records(words: &[u16], place: u64) -> &[u16] {
+    let mut heads = line_places(words).into_iter().map(|line| line - 1);
+    &words[..heads.rfind(|&head| head as u64 <= place).unwrap_or(0)]
 }
 
 impl Wrong {
@@ -201,6 +253,27 @@ impl Entries for Wrong {
     fn evaluate(&self, n: u64, words: &[u16], values: &mut [u8]) -> Answer {
         self.ask(n, words, |words| Second.evaluate(n, words, values))
     }
+
+    fn conflict(&self, n: u64, words: &[u16]) -> Answer {
+        let answer = self.ask(n, words, |words| Second.conflict(n, words));
+        let yes = match (self, answer) {
+            (Wrong::ConflictWithWordsBefore1, Err(Refusal { number: 1, .. })) => return fault(512, words).map_or(answer, Err),
+            (Wrong::ConflictWithWordsBefore2, Err(Refusal { number: 2, .. })) => return fault(n, words).map_or(answer, Err),
+            (Wrong::ConflictWith2Before1, Err(_)) if words.len() > 8192 => return Err(Refusal { number: 2, place: 0 }),
+            (Wrong::ConflictBeforeAFaultyWord, Err(Refusal { number: 4..=7, place })) => {
+                return if Second.conflict(n, sound_records(words, place)) == Ok(YES) { Ok(YES) } else { answer };
+            }
+            (_, Err(_)) => return answer,
+            (Wrong::NeverInConflict, _) => false,
+            (Wrong::AlwaysInConflict, _) => true,
+            (Wrong::ConflictOfAtom0Alone, _) => values(n, words).first() == Some(&I),
+            (Wrong::ConflictOfTheLastAtomOverlooked, _) => values(n, words).iter().rev().skip(1).any(|&value| value == I),
+            (Wrong::ConflictByALiteralHeldAndNotClean, Ok(NO)) => markable_after_a_mark(n, words),
+            (Wrong::ConflictWhereBothSignsHaveARule, Ok(NO)) => both_signs_have_a_rule(n, words),
+            (_, Ok(said)) => return Ok(said),
+        };
+        Ok(u64::from(yes))
+    }
 }
 
 fn trace(seed: u64) -> Trace {
@@ -219,6 +292,14 @@ fn each_is_noticed_and_its_trace_shrinks() {
         assert!(short.steps.len() <= most, "{wrong:?}: {short}");
         let words: usize = short.tables.iter().map(Vec::len).sum();
         assert!(words <= 12, "{wrong:?}: {short}");
+    }
+}
+
+#[test]
+fn each_is_noticed_by_a_long_table() {
+    for wrong in WRONG_OF_LONG_TABLES {
+        let found = (0..500).find_map(|seed| parting(&trace(seed), &wrong, &mut Tally::default()));
+        println!("{wrong:?}: {}", found.unwrap_or_else(|| panic!("{wrong:?} was not noticed")).what);
     }
 }
 

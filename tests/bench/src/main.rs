@@ -1,11 +1,12 @@
 //! Evaluation's speed beside the second implementation and the yardsticks, plain rereading by the same method, and counters; then
-//! reading's (`reading`).
+//! the question of conflict's beside evaluation (`conflict`), and reading's (`reading`).
 //!
 //! From tests/, after `rt staticlib probe` and `rt staticlib simmerknot`: `cargo run --release -p bench`. Both sides are
 //! in this binary. The four take turns, one evaluation each, for 2 seconds a table or 401 turns, and 11 turns at least; the
 //! value room is written anew by each and not cleared between. Every turn's values are compared. Times are medians in
 //! microseconds, ratios those of the medians.
 
+mod conflict;
 mod reading;
 mod turns;
 mod yardstick;
@@ -65,5 +66,6 @@ fn main() {
             engine / counters
         );
     }
+    conflict::print();
     reading::print();
 }

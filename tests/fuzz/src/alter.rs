@@ -1,5 +1,6 @@
 //! Inputs altered at random, with no regard to what they mean but for the lines of tables.
 
+use second::host::whole_words;
 use second::random::{Chance, any_line, line_places, sheet_byte};
 
 /// A part of the row: where it begins and ends, mostly short.
@@ -66,14 +67,9 @@ fn times(chance: &mut Chance) -> u64 {
     if chance.one_in(3) { 0 } else { chance.between(1, 5) }
 }
 
-/// The whole words of a table's bytes.
-pub fn words_of(row: &[u8]) -> Vec<u16> {
-    row.chunks_exact(2).map(|pair| u16::from_le_bytes([pair[0], pair[1]])).collect()
-}
-
 /// One of the line words, as far as the counts tell them, at an edge of its range or anywhere.
 fn line_altered(chance: &mut Chance, mut row: Vec<u8>) -> Vec<u8> {
-    let places = line_places(&words_of(&row));
+    let places = line_places(&whole_words(&row).0);
     if !places.is_empty() {
         let at = 2 * chance.of(&places);
         row[at..at + 2].copy_from_slice(&any_line(chance).to_le_bytes());

@@ -1,4 +1,4 @@
-//! The program and the host's two entries against the second implementation.
+//! The program and the host's three entries against the second implementation.
 //!
 //! A case is drawn from the seed and its own number alone, so that it can be run again by itself: an input of `second::random`,
 //! altered a few times (`alter`), and buffers to lend. Both sides must answer the same and leave the same bytes. The engine's
@@ -14,7 +14,7 @@ use against::cases::Tally;
 use against::shrink::without_parts;
 use second::random::Chance;
 
-/// What is handed over: N (for evaluation), the table or sheet, and the buffers lent to be written.
+/// What is handed over: N (with a table), the table or sheet, and the buffers lent to be written.
 #[derive(Clone, Debug)]
 pub struct Case {
     pub n: u64,
@@ -29,13 +29,13 @@ pub struct Outcome {
     pub left: Vec<Vec<u8>>,
 }
 
-/// One of the three things that are tried.
+/// One of the four things that are tried.
 pub struct Target {
     pub name: &'static str,
     pub draw: fn(&mut Chance) -> Case,
     pub engine: Box<dyn FnMut(&Case) -> Outcome>,
     pub second: fn(&Case) -> Outcome,
-    /// "ok" or the number of refusal, and what a line or names only in bodies have to do with it.
+    /// "ok", "yes", "no" or the number of refusal, and what a line or names only in bodies have to do with it.
     pub kind: fn(&Case, &Outcome) -> String,
     /// The kinds that a run of some length must meet.
     pub kinds: &'static [&'static str],

@@ -1,10 +1,11 @@
-//! The three things that are tried: evaluation, the sheet entry, the program.
+//! The four things that are tried: evaluation, the question of conflict, the sheet entry, the program.
 
 use std::fs::{self, File};
 use std::path::PathBuf;
 use std::process::{Command, Stdio};
 use std::sync::atomic::{AtomicU64, Ordering};
 
+use second::host::whole_words;
 use second::random::{self, Chance};
 
 use crate::pages::Pages;
@@ -17,11 +18,11 @@ fn packed_kind(outcome: &Outcome) -> String {
     }
 }
 
-/// The kind of an evaluation's outcome, with more said of 6 at a line.
+/// The kind of a table's outcome, with more said of 6 at a line.
 fn table_kind(table: &[u8], outcome: &Outcome) -> String {
     let kind = packed_kind(outcome);
     let place = (outcome.answer & 0xffff_ffff) as usize;
-    if kind == "6" && random::line_places(&alter::words_of(table)).contains(&place) { "6, at a line".to_string() } else { kind }
+    if kind == "6" && random::line_places(&whole_words(table).0).contains(&place) { "6, at a line".to_string() } else { kind }
 }
 
 /// The kind of a sheet's outcome, with more said where some names stand only in bodies: of an accepted sheet, and of 15 in a text room
@@ -40,17 +41,22 @@ fn behind(case: &Case) -> bool {
     case.bytes.iter().fold(case.n, |sum, &byte| sum.wrapping_mul(31).wrapping_add(byte.into())) % 4 != 0
 }
 
+/// N and the bytes of a table, altered.
+fn draw_table(chance: &mut Chance) -> (u64, Vec<u8>) {
+    let (n, words) = random::any_table(chance);
+    let (_, other) = random::small_table(chance, 6);
+    let bytes = random::table_bytes(&words);
+    let mut bytes = alter::table(chance, bytes, &random::table_bytes(&other));
+    bytes.truncate(200_000);
+    (if chance.one_in(20) { random::awkward_number(chance, n) } else { n }, bytes)
+}
+
 pub fn evaluation() -> Target {
     let (mut table, mut values) = (Pages::default(), Pages::default());
     Target {
         name: "evaluate",
         draw: |chance| {
-            let (n, words) = random::any_table(chance);
-            let (_, other) = random::small_table(chance, 6);
-            let bytes = random::table_bytes(&words);
-            let mut bytes = alter::table(chance, bytes, &random::table_bytes(&other));
-            bytes.truncate(200_000);
-            let n = if chance.one_in(20) { random::awkward_number(chance, n) } else { n };
+            let (n, bytes) = draw_table(chance);
             let room = random::value_room(chance, n);
             Case { n, bytes, lent: vec![room] }
         },
@@ -70,6 +76,28 @@ pub fn evaluation() -> Target {
         },
         kind: |case, outcome| table_kind(&case.bytes, outcome),
         kinds: &["ok", "1", "2", "3", "4", "5", "6", "6, at a line", "7"],
+    }
+}
+
+pub fn conflict() -> Target {
+    let mut table = Pages::default();
+    Target {
+        name: "conflict",
+        draw: |chance| {
+            let (n, bytes) = draw_table(chance);
+            Case { n, bytes, lent: Vec::new() }
+        },
+        engine: Box::new(move |case| {
+            let answer = against::host::conflict(case.n, table.read_only(&case.bytes, behind(case)));
+            Outcome { answer, left: Vec::new() }
+        }),
+        second: |case| Outcome { answer: second::host::simmerknot_conflict(case.n, &case.bytes), left: Vec::new() },
+        kind: |case, outcome| match outcome.answer {
+            0 => "no".to_string(),
+            1 => "yes".to_string(),
+            _ => table_kind(&case.bytes, outcome),
+        },
+        kinds: &["yes", "no", "1", "2", "4", "5", "6", "6, at a line", "7"],
     }
 }
 

@@ -2,9 +2,10 @@
 
 use std::process::Command;
 
-use fuzz::alter::words_of;
 use fuzz::{Case, Outcome, Target, run, targets};
+use second::host::whole_words;
 use second::random::{heads_and_others, line_places, lines_length, table_bytes};
+use second::truth::I;
 
 /// The target with a fault laid over its engine's outcomes parts from the second implementation within so many cases.
 fn noticed(mut target: Target, within: u64, fault: fn(&Case, &mut Outcome)) {
@@ -52,7 +53,7 @@ fn evaluation_that_writes_on_a_refusal() {
 
 /// Whether the place of a refusal is a line of the table.
 fn at_a_line(case: &Case, outcome: &Outcome) -> bool {
-    line_places(&words_of(&case.bytes)).contains(&((outcome.answer & 0xffff_ffff) as usize))
+    line_places(&whole_words(&case.bytes).0).contains(&((outcome.answer & 0xffff_ffff) as usize))
 }
 
 #[test]
@@ -67,7 +68,7 @@ fn evaluation_that_takes_a_line_above_32768() {
 #[test]
 fn evaluation_that_looks_at_m_before_the_line() {
     noticed(targets::evaluation(), 5_000, |case, outcome| {
-        let m = words_of(&case.bytes).get((outcome.answer & 0xffff_ffff) as usize + 1).copied();
+        let m = whole_words(&case.bytes).0.get((outcome.answer & 0xffff_ffff) as usize + 1).copied();
         if number(outcome) == 6 && at_a_line(case, outcome) && m.is_some_and(|m| m > 64) {
             outcome.answer += 1;
         }
@@ -77,9 +78,89 @@ fn evaluation_that_looks_at_m_before_the_line() {
 #[test]
 fn evaluation_that_depends_on_a_line() {
     noticed(targets::evaluation(), 500, |case, outcome| {
-        let words = words_of(&case.bytes);
+        let (words, _) = whole_words(&case.bytes);
         if number(outcome) == 0 && line_places(&words).into_iter().any(|at| words[at] == 32_768) {
             outcome.left[0][0] = 1;
+        }
+    });
+}
+
+/// The values of an accepted table.
+fn values(case: &Case) -> Vec<u8> {
+    let mut values = vec![9; case.n as usize];
+    assert_eq!(second::host::simmerknot_evaluate(case.n, &case.bytes, &mut values), 0);
+    values
+}
+
+#[test]
+fn conflict_that_is_always_no() {
+    noticed(targets::conflict(), 500, |_, outcome| {
+        if number(outcome) == 0 {
+            outcome.answer = 0;
+        }
+    });
+}
+
+#[test]
+fn conflict_that_is_always_yes() {
+    noticed(targets::conflict(), 500, |_, outcome| {
+        if number(outcome) == 0 {
+            outcome.answer = 1;
+        }
+    });
+}
+
+#[test]
+fn conflict_that_looks_at_atom_0_alone() {
+    noticed(targets::conflict(), 500, |case, outcome| {
+        if number(outcome) == 0 {
+            outcome.answer = (values(case).first() == Some(&I)) as u64;
+        }
+    });
+}
+
+#[test]
+fn conflict_that_overlooks_the_last_atom() {
+    noticed(targets::conflict(), 5_000, |case, outcome| {
+        if number(outcome) == 0 {
+            outcome.answer = values(case).iter().rev().skip(1).any(|&value| value == I) as u64;
+        }
+    });
+}
+
+#[test]
+fn conflict_with_a_lone_byte_before_the_words() {
+    noticed(targets::conflict(), 500, |case, outcome| {
+        if number(outcome) > 4 && case.bytes.len() % 2 == 1 {
+            outcome.answer = (4 << 32) + case.bytes.len() as u64 / 2;
+        }
+    });
+}
+
+#[test]
+fn conflict_with_2_before_1() {
+    noticed(targets::conflict(), 5_000, |case, outcome| {
+        if number(outcome) == 1 && case.bytes.len() / 2 > 8192 {
+            outcome.answer = 2 << 32;
+        }
+    });
+}
+
+#[test]
+fn conflict_with_a_lone_byte_counted_for_2() {
+    noticed(targets::conflict(), 20_000, |case, outcome| {
+        if case.n <= 512 && case.bytes.len() == 2 * 8192 + 1 {
+            outcome.answer = 2 << 32;
+        }
+    });
+}
+
+#[test]
+fn conflict_that_depends_on_a_line() {
+    noticed(targets::conflict(), 500, |case, outcome| {
+        let (words, _) = whole_words(&case.bytes);
+        if number(outcome) == 0 && line_places(&words).into_iter().any(|at| words[at] == 32_768) {
+            outcome.answer = 1;
         }
     });
 }
@@ -88,7 +169,7 @@ fn evaluation_that_depends_on_a_line() {
 fn sheet_with_lines_counted_from_0() {
     noticed(targets::sheet(), 50, |_, outcome| {
         if number(outcome) == 0 {
-            let mut words = words_of(&outcome.left[0]);
+            let (mut words, _) = whole_words(&outcome.left[0]);
             let filled = words.iter().rposition(|&word| word != 0).map_or(0, |last| last + 1);
             for at in line_places(&words[..filled]) {
                 words[at] -= 1;
@@ -198,7 +279,7 @@ fn program_with_another_status() {
 
 #[test]
 fn the_right_engines_pass() {
-    for (mut target, most) in [(targets::evaluation(), 500), (targets::sheet(), 500), (simmer(), 50)] {
+    for (mut target, most) in [(targets::evaluation(), 500), (targets::conflict(), 500), (targets::sheet(), 500), (simmer(), 50)] {
         if let Err(parting) = run(&mut target, 2, |number| number < most) {
             panic!("{}: {}", target.name, parting.said());
         }
