@@ -43,12 +43,13 @@
 extern "C" {
 #endif
 
-/* Version. */
+/* Version. The minor number grows only when a layout or an answer changes, so by it a host tells whether a stored table still means
+ * the same; a call more raises the patch number. */
 
 #define SIMMERKNOT_VERSION_MAJOR 0
 #define SIMMERKNOT_VERSION_MINOR 3
-#define SIMMERKNOT_VERSION_PATCH 0
-#define SIMMERKNOT_VERSION_TEXT "0.3.0"
+#define SIMMERKNOT_VERSION_PATCH 1
+#define SIMMERKNOT_VERSION_TEXT "0.3.1"
 
 /* The version as one number, to compare with simmerknot_version(). */
 #define SIMMERKNOT_VERSION (1000000 * SIMMERKNOT_VERSION_MAJOR + 1000 * SIMMERKNOT_VERSION_MINOR + SIMMERKNOT_VERSION_PATCH)
@@ -79,10 +80,23 @@ extern "C" {
  *   code is 2 x atom, plus 1 for the negation. A head has one record at most. Line numbers stand in any order and may repeat; no
  *   answer and no value depends on one. A table does not say for which version it was made: whoever stores one stores that too.
  * Answered: 0 if evaluated, else a refusal: 1, 2, 3, then the first faulty word by 4, 5, 6 or 7, then 19. 6 is also for a line
- *   number above 32,768.
+ *   number above 32,768, and 4 for a lone last byte, met after the whole words.
  * Written: if evaluated, the first n bytes of `values`, the value of each atom as a simmerknot_value.
  * Untouched: `table`; the bytes of `values` past n; all of `values` on a refusal. */
 uint64_t simmerknot_evaluate(uint64_t n, const uint8_t *table, size_t table_len, uint8_t *values, size_t values_len);
+
+/* Says whether a table has a conflict: yes exactly if simmerknot_evaluate of the same table would write SIMMERKNOT_I for some atom.
+ * It works out once what is held, before any mark, and no values.
+ *
+ * Read: `table`, laid out as for simmerknot_evaluate.
+ * Answered: SIMMERKNOT_NO_CONFLICT or SIMMERKNOT_CONFLICT, else a refusal, which is neither: 1, 2, then the first faulty word by 4,
+ *   5, 6 or 7, as evaluation gives them.
+ * Written: nothing.
+ * Untouched: `table`. */
+uint64_t simmerknot_conflict(uint64_t n, const uint8_t *table, size_t table_len);
+
+#define SIMMERKNOT_NO_CONFLICT 0
+#define SIMMERKNOT_CONFLICT 1
 
 /* Reads a rule sheet (its layout: simmer(1), docs/SHEETS.md) and writes its value sheet.
  *
@@ -114,7 +128,7 @@ static inline uint32_t simmerknot_number(uint64_t answer) { return (uint32_t)(an
 /* The refusal's place: a word of the table, a byte of the sheet, the bytes needed (15), or 0. */
 static inline uint32_t simmerknot_place(uint64_t answer) { return (uint32_t)(answer & 0xffffffffu); }
 
-/* The numbers of refusal: number, name, text. The two calls give 1 to 15 and 19; the others belong to marking step by step. */
+/* The numbers of refusal: number, name, text. The calls give 1 to 15 and 19, and none gives the others. */
 #define SIMMERKNOT_REFUSALS(X) \
     X(1, TOO_MANY_ATOMS, "N is above 512") \
     X(2, TABLE_TOO_LONG, "the table has more than 8,192 words") \

@@ -20,6 +20,11 @@ static void *evaluates(void *unused) {
     return unused;
 }
 
+static void *asks(void *unused) {
+    answer = simmerknot_conflict(512, table, table_len);
+    return unused;
+}
+
 static void *reads(void *unused) {
     answer = simmerknot_sheet((uint8_t *)sheet, sheet_len, words, sizeof words, names, sizeof names, text, sizeof text);
     return unused;
@@ -39,7 +44,7 @@ static size_t touched(void *(*call)(void *)) {
 }
 
 int main(void) {
-    size_t without, evaluation, reading;
+    size_t without, evaluation, asking, reading;
     int i;
     /* 1,024 facts, both literals of each atom, as a table and as a sheet */
     for (i = 0; i < 1024; i++) {
@@ -54,8 +59,10 @@ int main(void) {
     without = touched(nothing);
     evaluation = touched(evaluates) - without;
     if (answer != 0) return 1;
+    asking = touched(asks) - without;
+    if (answer != SIMMERKNOT_CONFLICT) return 1;
     reading = touched(reads) - without;
     if (simmerknot_refused(answer)) return 1;
-    printf("evaluate %zu\nsheet %zu\n", evaluation, reading);
+    printf("evaluate %zu\nconflict %zu\nsheet %zu\n", evaluation, asking, reading);
     return 0;
 }

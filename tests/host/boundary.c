@@ -1,4 +1,4 @@
-/* boundary PLACEMENT CASES: the two calls, and the header's functions over words, at the edges of every lent buffer.
+/* boundary PLACEMENT CASES: the calls, and the header's functions over words, at the edges of every lent buffer.
  *
  * PLACEMENT says where a lent buffer lies:
  *   exact      an allocation of exactly its size, for AddressSanitizer and valgrind
@@ -232,10 +232,35 @@ static void any_words(unsigned long count) {
     check(5 * with_words >= all && 10 * with_more >= all, "words of a sheet are rare");
 }
 
-/* simmerknot_evaluate. */
+/* simmerknot_evaluate and simmerknot_conflict. */
 
 /* What an evaluation gave, as letters. */
 static char valued[513];
+
+/* How many tables had a conflict, had none, were refused. */
+static unsigned long conflicts, quiet, not_asked;
+
+/* The answer on conflict, by that of an evaluation which had room: the same refusal, or whether a value is i. 3 and 19 are never its. */
+static void check_conflict(uint64_t n, const uint8_t *table, size_t table_len, uint64_t evaluated) {
+    struct lent t = lend_to_read(table, table_len);
+    const uint64_t answer = simmerknot_conflict(n, t.at, t.len);
+    calls++;
+    check(t.len == 0 || memcmp(t.at, table, table_len) == 0, "the question on conflict altered the table");
+    if (simmerknot_refused(evaluated) && simmerknot_number(evaluated) != 19) {
+        check(answer == evaluated, "another refusal of the question on conflict");
+        not_asked++;
+    } else {
+        check(!simmerknot_refused(answer), "the question on conflict refuses an accepted table");
+    }
+    if (evaluated == 0 && strchr(valued, 'i')) {
+        check(answer == SIMMERKNOT_CONFLICT, "no conflict, and a value is i");
+        conflicts++;
+    } else if (evaluated == 0) {
+        check(answer == SIMMERKNOT_NO_CONFLICT, "a conflict, and no value is i");
+        quiet++;
+    }
+    take_back(t);
+}
 
 /* Values are letters, one for each atom; NULL where any will do. */
 static uint64_t evaluate_once(uint64_t n, const uint8_t *table, size_t table_len, size_t room, const char *values) {
@@ -247,6 +272,7 @@ static uint64_t evaluate_once(uint64_t n, const uint8_t *table, size_t table_len
     if (simmerknot_refused(answer)) {
         const uint32_t number = simmerknot_number(answer);
         check((number >= 1 && number <= 7) || number == 19, "a number that evaluation does not give");
+        check(number != 3 || (n <= 512 && room < n), "3 against 1, or with room");
         check_untouched(v, 0, "a refusal wrote a value");
     } else {
         check(answer == 0, "evaluated, and not 0");
@@ -262,6 +288,8 @@ static uint64_t evaluate_once(uint64_t n, const uint8_t *table, size_t table_len
     }
     take_back(t);
     take_back(v);
+    if (simmerknot_number(answer) == 3) evaluate_once(n, table, table_len, (size_t)n, NULL);
+    else check_conflict(n, table, table_len, answer);
     return answer;
 }
 
@@ -283,10 +311,27 @@ static void check_lines(uint64_t n, const uint8_t *table, size_t len, size_t roo
     check(evaluate_once(n, other, len, room, NULL) == refusal(6, at), "a line above 32,768 is not refused, or elsewhere");
 }
 
-/* The same as evaluate_once, and an accepted table with other lines. */
+/* The same table with one word altered or cut at a byte: what it means now, or why it is refused, is the same to both calls. */
+static void check_damaged(uint64_t n, const uint8_t *table, size_t len) {
+    static const uint16_t edges[] = {0, 1, 2, 64, 65, 1024, 32768, 32769, 65535};
+    static uint8_t other[16384];
+    char values[513];
+    if (len < 2) return;
+    strcpy(values, valued);
+    memcpy(other, table, len);
+    if (below(4)) put_word(other, below(len / 2), below(3) ? below(2 * (size_t)n + 1) : edges[below(9)]);
+    else len = below(len);
+    evaluate_once(n, other, len, (size_t)n, NULL);
+    strcpy(valued, values);
+}
+
+/* The same as evaluate_once, and an accepted table with other lines, and damaged. */
 static uint64_t evaluate(uint64_t n, const uint8_t *table, size_t table_len, size_t room, const char *values) {
     const uint64_t answer = evaluate_once(n, table, table_len, room, values);
-    if (answer == 0) check_lines(n, table, table_len, room);
+    if (answer == 0) {
+        check_lines(n, table, table_len, room);
+        check_damaged(n, table, table_len);
+    }
     return answer;
 }
 
@@ -299,7 +344,7 @@ static size_t put_words(uint8_t *bytes, const uint16_t *words, size_t count) {
 struct table_case {
     const char *what;
     uint64_t n;
-    uint16_t words[24];
+    uint16_t words[32];
     size_t count, surplus, room;
     uint64_t number, place;
     const char *values;
@@ -315,6 +360,11 @@ static const struct table_case table_cases[] = {
     {"-b: b", 1, {1, 1, 1, 1, 0}, 5, 0, 1, 0, 0, "u"},
     {"a, -a, p: a b", 3, {0, 1, 0, 1, 2, 0, 4, 3, 1, 2, 0, 2}, 12, 0, 3, 0, 0, "iuu"},
     {"a, -a, b, p: a / b", 3, {0, 1, 0, 1, 2, 0, 2, 3, 0, 4, 4, 2, 1, 0, 1, 2}, 16, 0, 3, 0, 0, "itt"},
+    {"l, c: l, -l: -c", 2, {0, 1, 0, 2, 2, 1, 1, 0, 1, 3, 1, 1, 3}, 13, 0, 2, 0, 0, "tt"},
+    {"p: q, -p: q, q", 2, {0, 1, 1, 1, 2, 1, 2, 1, 1, 2, 2, 3, 0}, 13, 0, 2, 0, 0, "it"},
+    {"-p, p: q r, q", 3, {1, 1, 0, 0, 2, 1, 2, 2, 4, 2, 3, 0}, 12, 0, 3, 0, 0, "ftu"},
+    {"a, -a, b: a, h, -h: -b, g: h / k, k: g", 5,
+     {0, 1, 0, 1, 2, 0, 2, 3, 1, 1, 0, 4, 4, 0, 5, 5, 1, 1, 3, 6, 6, 2, 1, 4, 1, 8, 8, 7, 1, 1, 6}, 31, 0, 5, 0, 0, "iiiii"},
     {"lines 0, 1 and 32,768", 2, {0, 0, 0, 1, 1, 0, 2, 32768, 0}, 9, 0, 2, 0, 0, "it"},
     {"a number, then a zero", 1, {0, 9, 0, 1, 0, 0}, 6, 0, 1, 0, 0, "i"},
     {"lines that repeat and fall", 2, {0, 9, 0, 1, 9, 0, 2, 3, 0}, 9, 0, 2, 0, 0, "it"},
@@ -347,7 +397,7 @@ static const struct table_case table_cases[] = {
 };
 
 static void written_tables(void) {
-    uint8_t bytes[64];
+    uint8_t bytes[66];
     size_t i;
     for (i = 0; i < sizeof table_cases / sizeof *table_cases; i++) {
         const struct table_case *c = &table_cases[i];
@@ -358,7 +408,8 @@ static void written_tables(void) {
     }
 }
 
-/* Exactly 8,192 words for 512 atoms: a chain back to front whose bodies repeat the atom before; all are t. */
+/* Exactly 8,192 words for 512 atoms: a chain back to front whose bodies repeat the atom before; all are t. Then its end is the
+ * negation of its beginning, so a conflict shows only when all of it is held. */
 static void full_tables(void) {
     static uint8_t bytes[2 * 8194];
     static char values[513];
@@ -384,7 +435,13 @@ static void full_tables(void) {
     check(evaluate(512, bytes, len, 511, NULL) == refusal(3, 0), "another answer");
     check(evaluate(512, bytes, len + 1, 512, NULL) == refusal(4, 8192), "another answer");
     check(evaluate(512, bytes, len + 2, 512, NULL) == refusal(2, 0), "another answer");
+    check(evaluate(513, bytes, len + 2, 512, NULL) == refusal(1, 0), "another answer");
     check(evaluate(512, bytes, len - 1, 512, NULL) == refusal(4, 8191), "another answer");
+    put_word(bytes, 0, 1);
+    memset(values, 'i', 511);
+    values[511] = 'u';
+    what = "8,192 words and a conflict";
+    check(evaluate(512, bytes, len, 512, values) == 0, "another answer");
 }
 
 /* simmerknot_sheet. */
@@ -671,12 +728,14 @@ static void nulls(void) {
     check(simmerknot_evaluate(1, NULL, 0, NULL, 0) == refusal(3, 0), "N 1");
     check(simmerknot_evaluate(1, NULL, 0, &one, 1) == 0 && one == 1, "no table");
     check(simmerknot_evaluate(0, (const uint8_t *)"\0\0\0", 2, NULL, 0) == refusal(5, 0), "no room");
+    check(simmerknot_conflict(0, NULL, 0) == 0 && simmerknot_conflict(512, NULL, 0) == 0, "no conflict in no table");
+    check(simmerknot_conflict(513, NULL, 0) == refusal(1, 0), "N above 512, and no table");
     check(simmerknot_sheet(NULL, 0, NULL, 0, NULL, 0, NULL, 0) == refusal(9, 0), "nothing at all");
     check(simmerknot_sheet(NULL, 0, words, 16384, NULL, 0, NULL, 0) == refusal(9, 0), "no name buffer");
     check(simmerknot_sheet(NULL, 0, NULL, 0, names, 2048, NULL, 0) == refusal(9, 0), "no word buffer");
     check(simmerknot_sheet(NULL, 0, words, 16384, names, 2048, NULL, 0) == 0, "the empty sheet");
     check(simmerknot_sheet((const uint8_t *)"p\n", 2, words, 16384, names, 2048, NULL, 0) == refusal(15, 4), "no text room");
-    calls += 9;
+    calls += 12;
     check(simmerknot_words_used(NULL, 0) == 0 && simmerknot_line_of(NULL, 0, 0) == 0, "no words");
     free(words);
     free(names);
@@ -748,6 +807,7 @@ static void random_rules(unsigned long count) {
         without_room += room < needed;
         check(read_sheet((uint8_t *)sheet, len, 16384, 2048, room) == (room < needed ? refusal(15, needed) : needed), "another answer");
     }
+    check(10 * conflicts >= all && quiet >= all && not_asked >= all, "tables with a conflict, without one or refused are rare");
     check(2 * with_others >= all, "names that stand only in bodies are rare");
     check(10 * without_room >= all, "rooms that are too small are rare");
 }

@@ -1,4 +1,4 @@
-/* The header's own promises, as C99 and as C++11: limits, the list of refusals, answers taken apart, values, words, version. */
+/* The header's own promises, as C99 and as C++11: limits, the list of refusals, answers taken apart, values, words, conflict, version. */
 #include <simmerknot.h>
 #include <stdio.h>
 #include <stdlib.h>
@@ -168,9 +168,25 @@ static void words_of_a_full_sheet(void) {
     check(simmerknot_line_of(table, sizeof table, 1024) == 0, "a literal that is in no sheet");
     used_bytes = 2 * simmerknot_words_used(table, sizeof table);
     check(simmerknot_evaluate(512, table, used_bytes, valued, sizeof valued) == 0, "its words, evaluated");
+    check(simmerknot_conflict(512, table, used_bytes) == SIMMERKNOT_NO_CONFLICT, "its words, asked for a conflict");
+    check(simmerknot_conflict(512, table, used_bytes + 2) == (uint64_t)SIMMERKNOT_TABLE_TOO_LONG << 32, "one word more");
     check(simmerknot_refused(simmerknot_sheet((const uint8_t *)sheet, len - 1, table, sizeof table, names, sizeof names,
                                               text, sizeof text)), "a sheet that is refused");
     check(simmerknot_words_used(table, sizeof table) == 0 && simmerknot_line_of(table, sizeof table, 0) == 0, "no words of it");
+}
+
+/* p and -p as facts, lent as bytes that nothing may write. */
+static void conflict(void) {
+    static const uint8_t both[] = {0, 0, 1, 0, 0, 0, 1, 0, 2, 0, 0, 0};
+    uint64_t (*const ask)(uint64_t, const uint8_t *, size_t) = simmerknot_conflict;
+    const uint64_t lone = ask(1, both, 7), above = ask(513, both, sizeof both);
+    check(SIMMERKNOT_NO_CONFLICT == 0 && SIMMERKNOT_CONFLICT == 1, "no is 0 and yes is 1");
+    check(!simmerknot_refused(SIMMERKNOT_NO_CONFLICT) && !simmerknot_refused(SIMMERKNOT_CONFLICT), "neither is a refusal");
+    check(ask(1, both, sizeof both) == SIMMERKNOT_CONFLICT, "both literals");
+    check(ask(1, both, 6) == SIMMERKNOT_NO_CONFLICT, "one of them");
+    check(ask(0, NULL, 0) == SIMMERKNOT_NO_CONFLICT && ask(512, NULL, 0) == SIMMERKNOT_NO_CONFLICT, "no table");
+    check(simmerknot_number(lone) == SIMMERKNOT_CUT_SHORT && simmerknot_place(lone) == 3, "a lone byte");
+    check(simmerknot_number(above) == SIMMERKNOT_TOO_MANY_ATOMS && simmerknot_place(above) == 0, "N above 512");
 }
 
 static void version(void) {
@@ -189,6 +205,7 @@ int main(void) {
     words_of_a_sheet();
     words_made_by_hand();
     words_of_a_full_sheet();
+    conflict();
     version();
     printf("%d checks\n", passed);
     return 0;

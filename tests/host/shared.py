@@ -6,9 +6,10 @@ library = ctypes.CDLL(sys.argv[1])
 size, number, pointer = ctypes.c_size_t, ctypes.c_uint64, ctypes.c_char_p
 library.simmerknot_version.argtypes = []
 library.simmerknot_evaluate.argtypes = [number, pointer, size, pointer, size]
+library.simmerknot_conflict.argtypes = [number, pointer, size]
 library.simmerknot_sheet.argtypes = [pointer, size, pointer, size, pointer, size, pointer, size]
-for call in (library.simmerknot_version, library.simmerknot_evaluate, library.simmerknot_sheet):
-    call.restype = number
+for call in ("version", "evaluate", "conflict", "sheet"):
+    getattr(library, f"simmerknot_{call}").restype = number
 
 calls = 0
 
@@ -20,10 +21,19 @@ def same(what, found, wanted):
     calls += 1
 
 
+def table_of(words):
+    return b"".join(word.to_bytes(2, "little") for word in words)
+
+
 def evaluate(n, words, room):
-    table = b"".join(word.to_bytes(2, "little") for word in words)
+    table = table_of(words)
     values = ctypes.create_string_buffer(b"\7" * room, room)
     return library.simmerknot_evaluate(n, table, len(table), values, room), values.raw
+
+
+def conflict(n, words):
+    table = table_of(words)
+    return library.simmerknot_conflict(n, table, len(table))
 
 
 def read(sheet, room):
@@ -52,6 +62,12 @@ same("p, -p, q", evaluate(3, [0, 1, 0, 1, 2, 0, 2, 3, 0], 4), (0, b"\2\3\1\7"))
 same("p, -p, q by hand", evaluate(3, [0, 0, 0, 1, 0, 0, 2, 0, 0], 4), (0, b"\2\3\1\7"))
 same("line 32,769", evaluate(1, [0, 32769, 0], 1), ((6 << 32) + 1, b"\7"))
 same("second rule", evaluate(1, [0, 0, 0, 0, 0, 0], 1), ((7 << 32) + 3, b"\7"))
+same("a conflict in p, -p, q", conflict(3, [0, 1, 0, 1, 2, 0, 2, 3, 0]), 1)
+same("none in p, q", conflict(3, [0, 1, 0, 2, 3, 0]), 0)
+same("none in -b: b", conflict(1, [1, 1, 1, 1, 0]), 0)
+same("a conflict not asked of a second rule", conflict(1, [0, 0, 0, 0, 0, 0]), (7 << 32) + 3)
+same("a conflict not asked of a lone byte", library.simmerknot_conflict(1, b"\0\0\0\0\0\0\1", 7), (4 << 32) + 3)
+same("null pointers", library.simmerknot_conflict(512, None, 0), 0)
 same("null pointers", library.simmerknot_evaluate(0, None, 0, None, 0), 0)
 same("null pointers", library.simmerknot_sheet(None, 0, None, 0, None, 0, None, 0), 9 << 32)
 season, values = (open(f"examples/season.{kind}", "rb").read() for kind in ("sheet", "values"))

@@ -6,7 +6,9 @@
 uint64_t __real_simmerknot_evaluate(uint64_t n, const uint8_t *table, size_t table_len, uint8_t *values, size_t values_len);
 uint64_t __real_simmerknot_sheet(const uint8_t *sheet, size_t sheet_len, uint8_t *words, size_t words_len, uint8_t *names,
                                  size_t names_len, uint8_t *text, size_t text_len);
+uint64_t __real_simmerknot_conflict(uint64_t n, const uint8_t *table, size_t table_len);
 uint64_t __wrap_simmerknot_evaluate(uint64_t n, const uint8_t *table, size_t table_len, uint8_t *values, size_t values_len);
+uint64_t __wrap_simmerknot_conflict(uint64_t n, const uint8_t *table, size_t table_len);
 uint64_t __wrap_simmerknot_sheet(const uint8_t *sheet, size_t sheet_len, uint8_t *words, size_t words_len, uint8_t *names,
                                  size_t names_len, uint8_t *text, size_t text_len);
 
@@ -55,6 +57,50 @@ uint64_t __wrap_simmerknot_evaluate(uint64_t n, const uint8_t *table, size_t tab
     if (FAULT == 5 && table_len) ((uint8_t *)(uintptr_t)table)[0] = 0;
     /* 17: a value rests on a line */
     if (FAULT == 17 && !simmerknot_refused(answer) && n && table_len) values[0] ^= simmerknot_word(table, SIMMERKNOT_LINE_AT) / 32768;
+    return answer;
+}
+
+/* Whether both literals of an atom have a rule, or a fact where only those count. */
+static uint64_t both_literals(const uint8_t *table, size_t table_len, int only_facts) {
+    static uint8_t met[2 * SIMMERKNOT_MOST_ATOMS];
+    size_t at = 0, end = simmerknot_record_end(table, table_len, 0);
+    memset(met, 0, sizeof met);
+    for (; end != 0; at = end, end = simmerknot_record_end(table, table_len, at)) {
+        const uint32_t head = simmerknot_word(table, at);
+        if (only_facts && end > at + SIMMERKNOT_BODY_AT) continue;
+        met[head] = 1;
+        if (met[head ^ 1]) return SIMMERKNOT_CONFLICT;
+    }
+    return SIMMERKNOT_NO_CONFLICT;
+}
+
+uint64_t __wrap_simmerknot_conflict(uint64_t n, const uint8_t *table, size_t table_len) {
+    uint64_t answer;
+    /* 19, 20: one byte too many is read, behind the table or in front of it */
+    if (FAULT == 19 && table_len) sink = table[table_len];
+    if (FAULT == 20 && table_len) sink = *(table - 1);
+    /* 21: a lone byte is passed over; 22: it is met first; 23: a line above 32,768 is taken; 24: so is a table that is too long; 25: so is
+     * N above 512 */
+    if (FAULT == 21) table_len -= table_len % 2;
+    if (FAULT == 22 && table_len % 2) return ((uint64_t)SIMMERKNOT_CUT_SHORT << 32) + table_len / 2;
+    if (FAULT == 23) table = cut_lines(table, table_len);
+    if (FAULT == 24 && table_len > 2 * SIMMERKNOT_MOST_WORDS + 1) table_len = 2 * SIMMERKNOT_MOST_WORDS;
+    if (FAULT == 25 && n > SIMMERKNOT_MOST_ATOMS) n = SIMMERKNOT_MOST_ATOMS;
+    answer = __real_simmerknot_conflict(n, table, table_len);
+    /* 26: the table used as room */
+    if (FAULT == 26 && table_len) ((uint8_t *)(uintptr_t)table)[table_len - 1] = 0;
+    /* 27: a refusal is answered as no conflict; 28: a refusal without its place */
+    if (FAULT == 27 && simmerknot_refused(answer)) answer = SIMMERKNOT_NO_CONFLICT;
+    if (FAULT == 28) answer -= simmerknot_refused(answer) ? simmerknot_place(answer) : 0;
+    if (simmerknot_refused(answer)) return answer;
+    /* 29: never a conflict; 30: always one; 31: another number for yes; 32: yes and no rest on a line */
+    if (FAULT == 29) answer = SIMMERKNOT_NO_CONFLICT;
+    if (FAULT == 30) answer = SIMMERKNOT_CONFLICT;
+    if (FAULT == 31 && answer == SIMMERKNOT_CONFLICT) answer = SIMMERKNOT_I;
+    if (FAULT == 32 && table_len) answer ^= simmerknot_word(table, SIMMERKNOT_LINE_AT) / 32768;
+    /* 33: two rules are enough; 34: only two facts are */
+    if (FAULT == 33) answer = both_literals(table, table_len, 0);
+    if (FAULT == 34) answer = both_literals(table, table_len, 1);
     return answer;
 }
 
