@@ -1,4 +1,5 @@
-/* How many bytes of stack each call takes on a full input: a thread's stack is painted, and what was touched is counted.
+/* How many bytes of stack each call takes on a full input: a thread's stack is painted, and what was touched below the caller's frame is
+   counted.
    gcc -O2 -Iinclude tests/stack.c target/staticlib/libsimmerknot.a -lpthread -o target/stack && target/stack */
 #include <pthread.h>
 #include <simmerknot.h>
@@ -12,20 +13,22 @@ static uint8_t text[SIMMERKNOT_VALUE_SHEET_BYTES];
 static char sheet[8192];
 static size_t table_len, sheet_len;
 static uint64_t answer;
-
-static void *nothing(void *unused) { return unused; }
+static uint8_t *frame; /* of the caller */
 
 static void *evaluates(void *unused) {
+    frame = __builtin_frame_address(0);
     answer = simmerknot_evaluate(512, table, table_len, values, sizeof values);
     return unused;
 }
 
 static void *asks(void *unused) {
+    frame = __builtin_frame_address(0);
     answer = simmerknot_conflict(512, table, table_len);
     return unused;
 }
 
 static void *reads(void *unused) {
+    frame = __builtin_frame_address(0);
     answer = simmerknot_sheet((uint8_t *)sheet, sheet_len, words, sizeof words, names, sizeof names, text, sizeof text);
     return unused;
 }
@@ -40,11 +43,11 @@ static size_t touched(void *(*call)(void *)) {
     pthread_create(&t, &a, call, NULL);
     pthread_join(t, NULL);
     while (i < sizeof stack && stack[i] == 0xA5) i++;
-    return sizeof stack - i;
+    return (size_t)(frame - stack) - i;
 }
 
 int main(void) {
-    size_t without, evaluation, asking, reading;
+    size_t evaluation, asking, reading;
     int i;
     /* 1,024 facts, both literals of each atom, as a table and as a sheet */
     for (i = 0; i < 1024; i++) {
@@ -56,12 +59,11 @@ int main(void) {
         table[table_len++] = 0;
         sheet_len += (size_t)sprintf(sheet + sheet_len, "%sa%d\n", i % 2 ? "-" : "", i / 2);
     }
-    without = touched(nothing);
-    evaluation = touched(evaluates) - without;
+    evaluation = touched(evaluates);
     if (answer != 0) return 1;
-    asking = touched(asks) - without;
+    asking = touched(asks);
     if (answer != SIMMERKNOT_CONFLICT) return 1;
-    reading = touched(reads) - without;
+    reading = touched(reads);
     if (simmerknot_refused(answer)) return 1;
     printf("evaluate %zu\nconflict %zu\nsheet %zu\n", evaluation, asking, reading);
     return 0;
