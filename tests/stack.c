@@ -37,6 +37,7 @@ static size_t touched(void *(*call)(void *)) {
     pthread_t t;
     pthread_attr_t a;
     size_t i = 0;
+    call(NULL); /* what a first call makes the dynamic linker take is not the call's own */
     memset(stack, 0xA5, sizeof stack);
     pthread_attr_init(&a);
     pthread_attr_setstack(&a, stack, sizeof stack);

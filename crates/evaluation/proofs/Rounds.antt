@@ -18,7 +18,7 @@ use Rattle.sets.proofs.Counting.{count-with, count≤}
 use Rattle.sets.proofs.Tests.{and-left, true→T}
 use Rattle.bits.specs.Sets.{member, putIn}
 use Rattle.bits.proofs.Laws.{member-putIn, length-putIn}
-use Rattle.marking.specs.Markable.{markable, conflicts}
+use Rattle.marking.specs.Markable.{markable, reasonToMark}
 use Rattle.marking.proofs.Markable.{markable-is, goes-on}
 use Rattle.evaluation.specs.Rounds.{markedOne, markedBelow, RoundOver, Begun, Settling, Round}
 
@@ -47,7 +47,7 @@ module _ (s : List ℕ) (H C : ℕ → Bool) (len : length s ≡ 8) where
     looked-marking e =
         let eight : length (so-far a) ≡ 8 = k .length-same ∙ len in
         let m : member (putIn (so-far a) a) ≡ (member (so-far a) with a) = member-putIn (so-far a) a (omega arith) in
-        let u₀ : T (not (member s a)) = and-left (not (member s a)) (conflicts H C a) (true→T (one a) e) in
+        let u₀ : T (not (member s a)) = and-left (not (member s a)) (reasonToMark H C a) (true→T (one a) e) in
         let u : T (not (member (so-far a) a)) = subst⁻¹ (λ (b : Bool). T (not b)) (k .ahead a (omega arith)) u₀ in
         let c : count 512 (member (putIn (so-far a) a)) ≡ suc (count 512 (member (so-far a))) = ap (count 512) m
         ∙ count-with 512 (member (so-far a)) a lt u in
@@ -99,7 +99,7 @@ module _ (s : List ℕ) (H C : ℕ → Bool) (len : length s ≡ 8) where
   unfolding someBelow markedBelow
   turn s₁ s₂ a any marked any′ lt o e es ea =
       let here : member s₁ a ≡ member s a = ap (λ (x : List ℕ). member x a) (o .marks-are) ∙ looked a (omega arith) .ahead a (omega arith) in
-      let same : marked ≡ one a = e ∙ ap (λ (b : Bool). not b && conflicts H C a) here in
+      let same : marked ≡ one a = e ∙ ap (λ (b : Bool). not b && reasonToMark H C a) here in
       rw (add-one a)
       (record {
         marks-are = es ∙ ap₂ (λ (x : List ℕ) (b : Bool). markedOne x a b) (o .marks-are) same;

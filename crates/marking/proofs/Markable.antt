@@ -11,7 +11,7 @@ use Rattle.sets.proofs.Tests.{and-intro, and-left, and-right, or-left, or-right
 use Rattle.sets.specs.Some.{someBelow}
 use Rattle.sets.proofs.Some.{some→, →some}
 use Rattle.paper.proofs.Order.{can-be-marked-below}
-use Rattle.marking.specs.Markable.{heldNotClean, conflicts, markable, GoesOn}
+use Rattle.marking.specs.Markable.{heldNotClean, reasonToMark, markable, GoesOn}
 
 module _ (R : List Rule) (A : Marks) (H C : ℕ → Bool) (h : IsHeld R A H) (c : IsClean R A C) where
   heldNotClean→ : (l : ℕ) → T (heldNotClean H C l) → HeldNotClean R A l
@@ -23,9 +23,9 @@ module _ (R : List Rule) (A : Marks) (H C : ℕ → Bool) (h : IsHeld R A H) (c 
   pub markable-is : (a : ℕ) → T (markable A H C a) ↔ CanBeMarked R A a
   markable-is a = (
     (λ t.
-        let b = and-right (not (A a)) (conflicts H C a) t in
+        let b = and-right (not (A a)) (reasonToMark H C a) t in
         record {
-          unmarked = and-left (not (A a)) (conflicts H C a) t;
+          unmarked = and-left (not (A a)) (reasonToMark H C a) t;
           because =
               ⊎-elim (λ (x : T (H (positive a) && H (negative a))). inl
               (h (positive a) .0 (and-left (H (positive a)) (H (negative a)) x), h (negative a) .0 (and-right (H (positive a)) (H (negative a)) x)))
@@ -36,7 +36,7 @@ module _ (R : List Rule) (A : Marks) (H C : ℕ → Bool) (h : IsHeld R A H) (c 
               (or-cases (H (positive a) && H (negative a)) (heldNotClean H C (positive a) || heldNotClean H C (negative a)) b);
         }),
     λ m.
-        and-intro (not (A a)) (conflicts H C a) (m .unmarked)
+        and-intro (not (A a)) (reasonToMark H C a) (m .unmarked)
         (⊎-elim
         (λ (x : Held R A (positive a) × Held R A (negative a)).
         or-left (H (positive a) && H (negative a)) (heldNotClean H C (positive a) || heldNotClean H C (negative a))

@@ -10,11 +10,11 @@ abbrev pub heldNotClean : (ℕ → Bool) → (ℕ → Bool) → ℕ → Bool
 heldNotClean H C l = H l && not (C l)
 
 -- both literals held, or one of them held and not clean
-abbrev pub conflicts : (ℕ → Bool) → (ℕ → Bool) → ℕ → Bool
-conflicts H C a = H (positive a) && H (negative a) || (heldNotClean H C (positive a) || heldNotClean H C (negative a))
+abbrev pub reasonToMark : (ℕ → Bool) → (ℕ → Bool) → ℕ → Bool
+reasonToMark H C a = H (positive a) && H (negative a) || (heldNotClean H C (positive a) || heldNotClean H C (negative a))
 
 abbrev pub markable : (ℕ → Bool) → (ℕ → Bool) → (ℕ → Bool) → ℕ → Bool
-markable A H C a = not (A a) && conflicts H C a
+markable A H C a = not (A a) && reasonToMark H C a
 
 -- an answer to "can any atom be marked"
 pub record GoesOn (R : List Rule) (A : Marks) (answer : Bool) : Type 0 where

@@ -11,7 +11,7 @@ ghost use Rattle.least.specs.Passing.{Records};
 ghost use mathlib.Core.Logic.{_↔_};
 ghost use Rattle.paper.specs.Rules.{HeadsBelow};
 ghost use Rattle.paper.specs.Marking.{CanBeMarked};
-ghost use Rattle.marking.specs.Markable.{heldNotClean, conflicts, markable, GoesOn};
+ghost use Rattle.marking.specs.Markable.{heldNotClean, reasonToMark, markable, GoesOn};
 
 fn not_clean(clean: &[u64], l: usize) -> bool
     ensures { λ r. ⌜ r ≡ not (member (now (clean .entry)) l) ⌝ }
@@ -31,9 +31,9 @@ fn held_not_clean(held: &[u64], clean: &[u64], l: usize) -> bool
     false
 }
 
-fn conflict(held: &[u64], clean: &[u64], a: usize) -> bool
+fn reason_to_mark(held: &[u64], clean: &[u64], a: usize) -> bool
     requires { ⌜ a < mostAtoms ⌝ }
-    ensures { λ r. ⌜ r ≡ conflicts (member (now (held .entry))) (member (now (clean .entry))) a ⌝ }
+    ensures { λ r. ⌜ r ≡ reasonToMark (member (now (held .entry))) (member (now (clean .entry))) a ⌝ }
 {
     if bits::has(held, 2 * a) {
         if bits::has(held, 2 * a + 1) {
@@ -52,7 +52,7 @@ pub fn is_markable(marks: &[u64], held: &[u64], clean: &[u64], a: usize) -> bool
     if bits::has(marks, a) {
         false
     } else {
-        conflict(held, clean, a)
+        reason_to_mark(held, clean, a)
     }
 }
 

@@ -1,4 +1,4 @@
--- Believed: Held, Clean, can be marked, settled, and the values of a settled marking.
+-- Believed: Held, Clean, can be marked, settled, conflict, and the values of a settled marking.
 use mathlib.Core.List.{List, [], _∷_}
 use mathlib.Core.Bool.{Bool, true, false, not}
 use mathlib.Core.Logic.{_⊎_, _↔_}

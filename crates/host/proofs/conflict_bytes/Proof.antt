@@ -1,6 +1,7 @@
 use borrow.Author.Needs.{needs}
 use mathlib.Core.Path.{sym, _∙_, ap, refl}
 use Prim.Native.Nat.{_/_}
+use native.Mathlib.Omega.{arith}
 use lib.ListN.{length}
 use Rattle.host.proofs.Bytes.{length-wordsIn}
 use Rattle.host.proofs.Evaluating.{front-words}
@@ -37,7 +38,7 @@ check-requires c κs = search needs
 cut-short-requires : tie.Need-cut-short-requires
 cut-short-requires c κs =
     let at-if1 = c .before .before .before .before .before .before .if1 in
-    (at-if1 .left, check-packable _ _ (c .check .result) (c .check .ensures))
+    (omega (arith, at-if1 .left), check-packable _ _ (c .check .result) (c .check .ensures))
 
 pack-requires : tie.Need-pack-requires
 pack-requires c κs =

@@ -37,7 +37,7 @@ evaluation-fault-requires c κs = search needs
 cut-short-requires : tie.Need-cut-short-requires
 cut-short-requires c κs =
     let at-if1 = c .before .before .before .before .before .before .if1 in
-    (at-if1 .left, evaluation-packable _ _ _ (c .evaluation-fault .result) (c .evaluation-fault .ensures))
+    (omega (arith, at-if1 .left), evaluation-packable _ _ _ (c .evaluation-fault .result) (c .evaluation-fault .ensures))
 
 pack-requires : tie.Need-pack-requires
 pack-requires c κs =

@@ -1,8 +1,8 @@
 use borrow.Author.Needs.{needs}
 use mathlib.Core.Path.{sym, _∙_}
 use mathlib.Core.Bool.{or-false}
-use Rattle.marking.proofs.conflict.Statement.{statement}
-use Rattle.marking.proofs.conflict.Tie as tie
+use Rattle.marking.proofs.reason_to_mark.Statement.{statement}
+use Rattle.marking.proofs.reason_to_mark.Tie as tie
 
 mul-has : tie.Need-mul-has
 mul-has c = search needs
@@ -48,8 +48,8 @@ returns-3 : tie.Need-returns-3
 returns-3 c =
     rw (sym (c .before .before .has .ensures), c .before .if1 .left) (c .held-not-clean .ensures)
 
-pub conflict-spec : {M : Type 1} → statement M
-conflict-spec =
+pub reason-to-mark-spec : {M : Type 1} → statement M
+reason-to-mark-spec =
     tie.close
     (tie.spec
     mul-has
