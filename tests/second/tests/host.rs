@@ -165,17 +165,23 @@ fn a_place_beyond_16_bits_is_told_whole() {
     assert_eq!(simmerknot_sheet(cut, &mut words, &mut names, &mut [0; 1000]), packed(10, 65_535));
 }
 
+/// N, any table's words, their bytes, now and then with a lone byte behind them, and whether there is one.
+fn any_bytes(chance: &mut Chance) -> (u64, Vec<u16>, Vec<u8>, bool) {
+    let (n, words) = random::any_table(chance);
+    let mut bytes = table_bytes(&words);
+    let odd = chance.one_in(5);
+    if odd {
+        bytes.push(chance.number() as u8);
+    }
+    (n, words, bytes, odd)
+}
+
 #[test]
 fn evaluation_on_bytes_equals_evaluation_on_words() {
     let (mut accepted, mut refused, mut lone) = (0, 0, 0);
     for seed in 0..3000 {
         let mut chance = Chance::new(seed);
-        let (n, words) = random::any_table(&mut chance);
-        let mut bytes = table_bytes(&words);
-        let odd = chance.one_in(5);
-        if odd {
-            bytes.push(chance.number() as u8);
-        }
+        let (n, words, bytes, odd) = any_bytes(&mut chance);
         let mut on_words = random::value_room(&mut chance, n);
         let mut on_bytes = on_words.clone();
         let before = on_words.clone();
@@ -206,12 +212,7 @@ fn conflict_on_bytes_equals_conflict_on_words() {
     let (mut met, mut refused, mut lone) = ([0; 2], 0, 0);
     for seed in 0..4000 {
         let mut chance = Chance::new(seed);
-        let (n, words) = random::any_table(&mut chance);
-        let mut bytes = table_bytes(&words);
-        let odd = chance.one_in(5);
-        if odd {
-            bytes.push(chance.number() as u8);
-        }
+        let (n, words, bytes, odd) = any_bytes(&mut chance);
         let answer = simmerknot_conflict(n, &bytes);
         match conflict(n, &words) {
             Ok(_) if odd => {
