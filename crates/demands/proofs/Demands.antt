@@ -1,22 +1,23 @@
 -- The three demands, about what the public entries promise, in the demands' order, then what document 02 asks besides. Each is proved by the room it cites.
 -- Assumes nothing.
-use mathlib.Core.Bool.{true, false}
+use mathlib.Core.Bool.{Bool, true, false}
 use mathlib.Core.List.{List, [], _∷_, _++_}
 use mathlib.Core.Logic.{_↔_, _⊎_, ⊎-elim, Iff·trans}
-use mathlib.Core.Path.{_≡_, refl, sym, _∙_, subst⁻¹}
+use mathlib.Core.Path.{_≡_, refl, sym, _∙_, subst, subst⁻¹}
 use Prim.Native.Nat.{ℕ, _+_, _≤_, _<_, _/_}
-use lib.Dec.{leb}
+use lib.Dec.{T, leb}
 use lib.ListN.{length, getD, take, drop}
 use Rattle.limits.specs.Limits.{mostAtoms, mostLine}
 use Rattle.refusal.specs.declared.Refusal.{Refusal}
 use Rattle.refusal.specs.Numbers.{too-many-atoms, not-settled, text-room-too-small, not-a-truth-code}
-use Rattle.paper.specs.Table1.{Value, 𝐢, code, _and_, _or_, not′, _implies_}
-use Rattle.paper.specs.Rules.{positive}
-use Rattle.sets.specs.Sets.{_∈_, count}
-use Rattle.paper.specs.Definitions.{Interpretation, value, Smallest, SmallestWellSupported}
-use Rattle.paper.specs.Marking.{Marked, Unmarked, CanBeMarked, Settled, IsHeld, Conflict, settledValue, inconsistent}
+use Rattle.paper.specs.Table1.{Value, 𝐢, 𝐭, code, _and_, _or_, not′, _implies_}
+use Rattle.paper.specs.Rules.{Rule, positive}
+use Rattle.sets.specs.Sets.{_∈_, _⊆_, count}
+use Rattle.paper.specs.Definitions.{Interpretation, value, bodyValue, Carries, Supports, Smallest, SmallestWellSupported}
+use Rattle.paper.specs.Marking.{Marks, Marked, Unmarked, Held, Clean, CanBeMarked, Settled, IsHeld, Conflict, settledValue, inconsistent}
 use Rattle.paper.proofs.Theorems as paper
 use Rattle.paper.proofs.Theorems.{smallest-by-test, smallest-exists}
+use Rattle.paper.proofs.Settled.{clean→𝐭}
 use Rattle.refusal.specs.declared.Numbered.{Numbered}
 use Rattle.refusal.specs.declared.Numbered.the-variants.{Number, Refused as NoCode}
 use Rattle.truth.specs.Connectives.{conjunction, disjunction, negated, implied}
@@ -30,6 +31,9 @@ use Rattle.words.specs.OnlyLines.{OnlyLinesDiffer}
 use Rattle.words.proofs.Laws.{check-determined, accepted-one-rule, accepted-within, wordsOf-recordsOf}
 use Rattle.words.proofs.OnlyLines.{Alike, only-lines-alike}
 use Rattle.bits.specs.Sets.{putIn}
+use Rattle.least.specs.declared.WhichGroup.{WhichGroup}
+use Rattle.least.specs.Groups.{WhichAllows, OnlyGroup}
+use Rattle.least.proofs.Groups.{which-determined, which→supports, which→carries-𝐢, only→supports, only→carries}
 use Rattle.records.specs.Records.{recordFault, marksOf, noMarksFor, withMarks, FreshAllows, CountAllows}
 use Rattle.picks.specs.Faults.{pickFault, settledFault, reportFault}
 use Rattle.records.specs.declared.MarkRecord.{MarkRecord}
@@ -605,3 +609,40 @@ module _ (N : ℕ) (t : List ℕ) {answer : Decided} (o : ConflictAllows N t ans
 pub host-conflict-exactly-if-a-code-is-2 : (N : ℕ) (bytes room : List ℕ) {answer : ℕ} {room′ : List ℕ}
     → HostConflict N bytes answer → HostEvaluation N bytes room 0 room′ → (answer ≡ 1) ↔ ((a : ℕ) × (a < N) × (getD room′ a 0 ≡ 2))
 host-conflict-exactly-if-a-code-is-2 = host-codes-tell
+
+-- ---- Document 02, W4. Which group did it: what Held and Clean ask of each body (least::which_group), and the reason that the answer names.
+
+module _ (S : ℕ → Bool) (ρ : Rule) {which : WhichGroup} (o : WhichAllows S (ρ .groups) which) where
+  -- one answer for each set and body
+  pub which-group-determined : {which′ : WhichGroup} → WhichAllows S (ρ .groups) which′ → which ≡ which′
+  which-group-determined = which-determined S o
+
+  -- for any set of literals that stand before the head, by an order of any kind
+  module _ (I : Interpretation) (before : ℕ → ℕ → Type 0) (earlier : (ι : ℕ) → T (S ι) → before ι (ρ .head))
+      (g : ℕ) (is-number : which ≡ WhichGroup.Number g) where
+    answer : WhichAllows S (ρ .groups) (WhichGroup.Number g)
+    answer = subst (WhichAllows S (ρ .groups)) is-number o
+
+    -- all of them t: the fact or group of that number, and so the rule, is supported (Definition 8, conditions 6 and 7)
+    pub which-group-supports : ((ι : ℕ) → T (S ι) → value I ι ≡ 𝐭)
+        → (σ : Rule) × OnlyGroup ρ g σ × Supports I before σ × Supports I before ρ
+    which-group-supports all-t =
+        let q = which→supports I before ρ S earlier all-t answer in
+        (q .0, q .1, q .2, only→supports I before ρ (q .1) (q .2))
+
+    -- all of them in I, and the body i: the group of that number, and so the rule, carries i (condition 8)
+    pub which-group-carries-𝐢 : S ⊆ I → bodyValue I (ρ .groups) ≡ 𝐢
+        → (σ : Rule) × OnlyGroup ρ g σ × Carries I before σ 𝐢 × Carries I before ρ 𝐢
+    which-group-carries-𝐢 inside body =
+        let q = which→carries-𝐢 I before ρ S earlier inside body answer in
+        (q .0, q .1, q .2, only→carries I before ρ (q .1) (q .2))
+
+    -- so clean literals of a settled marking support, and held ones carry i, in the interpretation that it gives
+    module _ (R : List Rule) (A : Marks) (is-held : IsHeld R A I) where
+      pub which-clean-group-supports : Settled R A → ((ι : ℕ) → T (S ι) → Clean R A ι)
+          → (σ : Rule) × OnlyGroup ρ g σ × Supports I before σ × Supports I before ρ
+      which-clean-group-supports settled clean = which-group-supports (λ ι m. clean→𝐭 R A I is-held settled ι (clean ι m))
+
+      pub which-held-group-carries-𝐢 : ((ι : ℕ) → T (S ι) → Held R A ι) → bodyValue I (ρ .groups) ≡ 𝐢
+          → (σ : Rule) × OnlyGroup ρ g σ × Carries I before σ 𝐢 × Carries I before ρ 𝐢
+      which-held-group-carries-𝐢 held = which-group-carries-𝐢 (λ ι m. is-held ι .1 (held ι m))

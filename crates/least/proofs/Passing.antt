@@ -4,12 +4,12 @@ use mathlib.Core.List.{List, [], _∷_, List·Memᴰ·head, List·Memᴰ·tail}
 use mathlib.Core.Path.{_≡_, refl, sym, ap, ap₂, _∙_, subst}
 use Prim.Native.Nat.{ℕ, suc, _*_, _/_, _≤_, _<_}
 use native.Mathlib.Omega.{arith}
-use lib.Dec.{T, eqb}
+use lib.Dec.{T}
 use lib.ListN.{length, getD, drop}
 use Rattle.paper.specs.Rules.{Rule}
 use Rattle.sets.specs.Sets.{_∈_, _with_, count}
 use Rattle.paper.specs.Marking.{Marks}
-use Rattle.paper.specs.Fires.{someWholly, noGroups, fires}
+use Rattle.paper.specs.Fires.{fires}
 use Rattle.sets.proofs.Counting.{count-with}
 use Rattle.bits.specs.Sets.{member, putIn}
 use Rattle.bits.proofs.Laws.{member-putIn, length-putIn}
@@ -17,27 +17,31 @@ use Rattle.words.specs.RecordAt.{WholeGroups, groupsIn, bodyFrom, ruleAt, after
 use Rattle.words.specs.Layout.{TableRecord, takeGroups, dropGroups, wordsOf, recordsOf, rulesIn, rulesOf, bodyAt}
 use Rattle.words.proofs.Places.{RecordAt, record-at, some-record}
 use Rattle.words.proofs.Reading.{takeGroups-groupsWords, dropGroups-groupsWords, length-takeGroups, whole-groups, recordsOf-wordsOf}
-use Rattle.least.specs.Walk.{GroupsSkipped, BodyRead, FiresAt}
+use Rattle.least.specs.declared.WhichGroup.{WhichGroup}
+use Rattle.least.specs.declared.WhichGroup.the-variants.{Number}
+use Rattle.least.specs.Groups.{WhichAllows, is-a-fact}
+use Rattle.least.specs.Walk.{GroupsSkipped, whichFrom}
+use Rattle.least.proofs.Groups.{walk-allowed}
 use Rattle.least.specs.Passing.{skips, adds, stepped, passed, Decided, Records, Moved, Passed}
 
--- no groups, told by their number
-noGroups-is : (βs : List (List ℕ)) → noGroups βs ≡ eqb (length βs) 0
-noGroups-is [] = refl
-noGroups-is (β ∷ βs) = sym (lib.Dec.eqb·suc-zero (length βs))
+-- the record at a place is a fact, told by its m, or its body was walked through
+pub fact-there : (S : ℕ → Bool) (t : List ℕ) (at m : ℕ) → bodyAt at ≤ length t → m ≡ groupsIn t at → m ≡ 0
+    → WhichAllows S (ruleAt t at .groups) (Number 0) × GroupsSkipped t (bodyAt at) (groupsIn t at) (bodyAt at)
+unfolding takeGroups dropGroups
+fact-there S t at m le em e =
+    let z : groupsIn t at ≡ 0 = sym em ∙ e in
+    (is-a-fact (rw z refl), record { after = rw z refl; inside = le; not-before = omega arith })
 
-pub fires-there : (S : ℕ → Bool) (t : List ℕ) (at m : ℕ) (fact firing : Bool) (next : ℕ)
-    → m ≡ groupsIn t at → WholeGroups (groupsIn t at) (bodyFrom t at) → fact ≡ eqb m 0
-    → BodyRead S t (bodyAt at) m fact firing next → FiresAt S t at firing next
-fires-there S t at m fact firing next em w ef b =
-    let groups : List (List ℕ) = takeGroups (groupsIn t at) (bodyFrom t at) in
-    let none : fact ≡ noGroups groups = ef
-    ∙ ap (λ (n : ℕ). eqb n 0) (em ∙ sym (length-takeGroups (groupsIn t at) (bodyFrom t at) w)) ∙ sym (noGroups-is groups) in
-    record {
-      fires-is = b .fires-is ∙ ap₂ (λ (x : Bool) (n : ℕ). x || someWholly S (takeGroups n (bodyFrom t at))) none em;
-      after = b .after ∙ ap (λ (n : ℕ). dropGroups n (bodyFrom t at)) em;
-      inside = b .inside;
-      further = b .not-before;
-    }
+pub body-there : (S : ℕ → Bool) (t : List ℕ) (at m : ℕ) (w : WhichGroup) (next : ℕ)
+    → m ≡ groupsIn t at → WholeGroups (groupsIn t at) (bodyFrom t at) → (m ≡ 0 → ⊥)
+    → w ≡ whichFrom S 1 (takeGroups m (bodyFrom t at)) → GroupsSkipped t (bodyAt at) m next
+    → WhichAllows S (ruleAt t at .groups) w × GroupsSkipped t (bodyAt at) (groupsIn t at) next
+body-there S t at m w next em whole some ew s = (
+  walk-allowed S (ruleAt t at .groups)
+      (λ e. some (em ∙ sym (length-takeGroups (groupsIn t at) (bodyFrom t at) whole) ∙ ap length e))
+      (ew ∙ ap (λ (n : ℕ). whichFrom S 1 (takeGroups n (bodyFrom t at))) em),
+  subst (λ (n : ℕ). GroupsSkipped t (bodyAt at) n next) em s,
+)
 
 -- the record at a place, and the records after it
 pub record Here (t : List ℕ) (at : ℕ) : Type 0 where
@@ -142,18 +146,18 @@ skipped-there A S t at head skip next eh es e g =
     }
 
 pub decided-there : (A : Marks) (S : ℕ → Bool) (t : List ℕ) (at head : ℕ) (skip firing : Bool) (next : ℕ)
-    → head ≡ getD t at 0 → skip ≡ skips A S head → skip ≡ false
-    → FiresAt S t at firing next → Decided A S t at firing head next
-decided-there A S t at head skip firing next eh es e f =
+    → head ≡ getD t at 0 → skip ≡ skips A S head → skip ≡ false → firing ≡ fires S (ruleAt t at)
+    → GroupsSkipped t (bodyAt at) (groupsIn t at) next → Decided A S t at firing head next
+decided-there A S t at head skip firing next eh es e ef g =
     record {
       head-is = eh;
-      adds-is = f .fires-is ∙ sym (ap (λ (b : Bool). not b && fires S (ruleAt t at)) (sym (ap (skips A S) eh) ∙ sym es ∙ e));
-      after = f .after;
-      inside = f .inside;
-      further = f .further;
+      adds-is = ef ∙ sym (ap (λ (b : Bool). not b && fires S (ruleAt t at)) (sym (ap (skips A S) eh) ∙ sym es ∙ e));
+      after = g .after;
+      inside = g .inside;
+      further = g .not-before;
     }
 
-records-nothing : (t : List ℕ) (at : ℕ) → length t ≤ at → rulesOf (drop at t) ≡ []
+pub records-nothing : (t : List ℕ) (at : ℕ) → length t ≤ at → rulesOf (drop at t) ≡ []
 records-nothing t at h = ap rulesOf (lib.ListN.drop-of-length-le t h) ∙ ap rulesIn Rattle.words.proofs.Reading.recordsOf-nothing
 
 pub moved-start : (A : Marks) (t s : List ℕ) → Records t 0 → Moved A t 0 s 0 false s

@@ -1,12 +1,13 @@
 -- Stage: what one walk through the table's groups finds, said of the words.
-use mathlib.Core.List.{List}
+use mathlib.Core.List.{List, [], _∷_}
 use mathlib.Core.Path.{_≡_}
-use mathlib.Core.Bool.{Bool, _||_}
-use Prim.Native.Nat.{ℕ, _≤_}
+use mathlib.Core.Bool.{Bool, cond}
+use Prim.Native.Nat.{ℕ, suc, _≤_}
 use lib.ListN.{length, drop}
-use Rattle.words.specs.Layout.{takeGroups, dropGroups, bodyAt}
-use Rattle.words.specs.RecordAt.{ruleAt, afterRecord}
-use Rattle.paper.specs.Fires.{someWholly, fires}
+use Rattle.words.specs.Layout.{dropGroups}
+use Rattle.paper.specs.Fires.{wholly}
+use Rattle.least.specs.declared.WhichGroup.{WhichGroup}
+use Rattle.least.specs.declared.WhichGroup.the-variants.{Number, None}
 
 -- the m groups from place `at` on end at `next`
 pub record GroupsSkipped (t : List ℕ) (at m next : ℕ) : Type 0 where
@@ -14,16 +15,7 @@ pub record GroupsSkipped (t : List ℕ) (at m next : ℕ) : Type 0 where
   pub inside : next ≤ length t
   pub not-before : at ≤ next
 
--- the body of m groups from place `at` on was read
-pub record BodyRead (S : ℕ → Bool) (t : List ℕ) (at m : ℕ) (fired fires : Bool) (next : ℕ) : Type 0 where
-  pub fires-is : fires ≡ (fired || someWholly S (takeGroups m (drop at t)))
-  pub after : drop next t ≡ dropGroups m (drop at t)
-  pub inside : next ≤ length t
-  pub not-before : at ≤ next
-
--- the rule of the record at a place fires, or not
-pub record FiresAt (S : ℕ → Bool) (t : List ℕ) (at : ℕ) (firing : Bool) (next : ℕ) : Type 0 where
-  pub fires-is : firing ≡ fires S (ruleAt t at)
-  pub after : drop next t ≡ afterRecord t at
-  pub inside : next ≤ length t
-  pub further : bodyAt at ≤ next
+-- the first of the groups that is wholly in the set, the one at the front having number g
+unfoldable pub whichFrom : (ℕ → Bool) → ℕ → List (List ℕ) → WhichGroup
+whichFrom S g [] = None
+whichFrom S g (β ∷ βs) = cond (wholly S β) (Number g) (whichFrom S (suc g) βs)

@@ -5,16 +5,22 @@ ghost use lib.ListN.{length, take, drop};
 ghost use Rattle.limits.specs.Limits.{mostAtoms};
 ghost use Rattle.bits.specs.Sets.{member};
 ghost use Rattle.paper.specs.Fires.{wholly};
-ghost use lib.Dec.{eqb};
-ghost use Rattle.least.specs.Walk.{GroupsSkipped, BodyRead, FiresAt};
+ghost use Rattle.least.specs.Groups.{WhichAllows};
+ghost use Rattle.least.specs.Walk.{GroupsSkipped, whichFrom};
 ghost use Rattle.least.specs.Passing.{skips, Records, Moved, Passed, ClosedOver, WithMarked, withPair};
-ghost use Rattle.words.specs.Layout.{rulesOf, bodyAt};
-ghost use Rattle.words.specs.RecordAt.{groupsIn, bodyFrom, WholeGroups};
+ghost use Rattle.words.specs.Layout.{rulesOf, bodyAt, takeGroups};
+ghost use Rattle.words.specs.RecordAt.{groupsIn, bodyFrom, ruleAt, WholeGroups};
 ghost use Rattle.paper.specs.Marking.{IsHeld, IsClean};
 
-// What a body says, and where the next record begins.
+// Which group of a body is wholly in a set: the number of the lowest, counted from 1, 0 for a fact, or none.
+pub enum WhichGroup {
+    Number(usize),
+    None,
+}
+
+// Which group of a body, and where the next record begins.
 pub struct Body {
-    pub fires: bool,
+    pub which: WhichGroup,
     pub next: usize,
 }
 
@@ -34,35 +40,6 @@ fn group_in(table: &[u16], set: &[u64], at: usize, k: usize) -> bool
     true
 }
 
-// A body fires by this group, or has fired before it.
-fn fires_with(table: &[u16], set: &[u64], at: usize, k: usize, fired: bool) -> bool
-    requires { ⌜ at + k ≤ length (now table) ⌝ }
-    ensures { λ r. ⌜ r ≡ (fired || wholly (member (now (set .entry))) (take k (drop at (now (table .entry))))) ⌝ }
-{
-    if fired {
-        true
-    } else {
-        group_in(table, set, at, k)
-    }
-}
-
-// Goes through the `m` groups from `first` on; what has fired looks at no further group.
-fn read_body(table: &[u16], set: &[u64], first: usize, m: usize, fired: bool) -> Body
-    requires { ⌜ (first ≤ length (now table)) × WholeGroups m (drop first (now table)) ⌝ }
-    ensures { λ r. ⌜ BodyRead (member (now (set .entry))) (now (table .entry)) first m fired (r .fires) (r .next) ⌝ }
-{
-    let mut at = first;
-    let mut left = m;
-    let mut fires = fired;
-    while 0 < left {
-        let k = words::word_inside(table, at);
-        fires = fires_with(table, set, at + words::LITERALS, k, fires);
-        at = at + words::LITERALS + k;
-        left -= 1;
-    }
-    Body { fires, next: at }
-}
-
 // Where the `m` groups from `first` on end.
 fn skip_groups(table: &[u16], first: usize, m: usize) -> usize
     requires { ⌜ (first ≤ length (now table)) × WholeGroups m (drop first (now table)) ⌝ }
@@ -78,6 +55,33 @@ fn skip_groups(table: &[u16], first: usize, m: usize) -> usize
     at
 }
 
+// The lowest of the `m` groups from `first` on that is wholly in the set, and where they end; no group after it is looked at.
+fn lowest_group(table: &[u16], set: &[u64], first: usize, m: usize) -> Body
+    requires { ⌜ (first ≤ length (now table)) × WholeGroups m (drop first (now table)) ⌝ }
+    ensures { λ r. ⌜ r .which ≡ whichFrom (member (now (set .entry))) 1 (takeGroups m (drop first (now (table .entry)))) ⌝ }
+    ensures { λ r. ⌜ GroupsSkipped (now (table .entry)) first m (r .next) ⌝ }
+{
+    let mut at = first;
+    let mut left = m;
+    while 0 < left {
+        let k = words::word_inside(table, at);
+        let literals = at + words::LITERALS;
+        at = literals + k;
+        left -= 1;
+        if group_in(table, set, literals, k) {
+            let next = skip_groups(table, at, left);
+            return Body {
+                which: WhichGroup::Number(m - left),
+                next,
+            };
+        }
+    }
+    Body {
+        which: WhichGroup::None,
+        next: at,
+    }
+}
+
 // A literal that is in the set already, or whose atom is marked.
 fn skips_head(set: &[u64], marks: &[u64], head: usize) -> bool
     ensures { λ r. ⌜ r ≡ skips (member (now (marks .entry))) (member (now (set .entry))) head ⌝ }
@@ -89,20 +93,21 @@ fn skips_head(set: &[u64], marks: &[u64], head: usize) -> bool
     }
 }
 
-// A rule without groups is a fact.
-fn is_fact(m: usize) -> bool
-    ensures { λ r. ⌜ r ≡ eqb m 0 ⌝ }
-{
-    m == 0
-}
-
-// Does the rule of the record at `at` fire, and where does the next record begin?
-fn fires_at(table: &[u16], set: &[u64], at: usize) -> Body
+// Which group of the record at `at` is wholly in the set, and where does the next record begin?
+pub fn which_group(table: &[u16], set: &[u64], at: usize) -> Body
     requires { ⌜ (bodyAt at ≤ length (now table)) × WholeGroups (groupsIn (now table) at) (bodyFrom (now table) at) ⌝ }
-    ensures { λ r. ⌜ FiresAt (member (now (set .entry))) (now (table .entry)) at (r .fires) (r .next) ⌝ }
+    ensures { λ r. ⌜ WhichAllows (member (now (set .entry))) (ruleAt (now (table .entry)) at .groups) (r .which) ⌝ }
+    ensures { λ r. ⌜ GroupsSkipped (now (table .entry)) (bodyAt at) (groupsIn (now (table .entry)) at) (r .next) ⌝ }
 {
     let m = words::word_inside(table, at + words::GROUPS);
-    read_body(table, set, at + words::BODY, m, is_fact(m))
+    let first = at + words::BODY;
+    if m == 0 {
+        return Body {
+            which: WhichGroup::Number(0),
+            next: first,
+        };
+    }
+    lowest_group(table, set, first, m)
 }
 
 // Where the record after the one at `at` begins.
@@ -133,20 +138,21 @@ fn pass_record(table: &[u16], set: &mut [u64], marks: &[u64], at: usize) -> Step
             changed: false,
         };
     }
-    let b = fires_at(table, set, at);
-    let fires = b.fires;
-    let next = b.next;
-    if fires {
-        bits::put(set, head);
-        Step {
-            next,
-            changed: true,
+    let body = which_group(table, set, at);
+    let which = body.which;
+    let next = body.next;
+    match which {
+        WhichGroup::Number(_) => {
+            bits::put(set, head);
+            Step {
+                next,
+                changed: true,
+            }
         }
-    } else {
-        Step {
+        WhichGroup::None => Step {
             next,
             changed: false,
-        }
+        },
     }
 }
 

@@ -1,7 +1,8 @@
 -- Stage: an answer as one number for tests: below 2^32 what it says, from there on a refusal.
 use Prim.Native.Nat.{ℕ, _+_, _*_, _%_, _^_}
-use mathlib.Core.List.{List}
-use mathlib.Core.Bool.{cond}
+use mathlib.Core.List.{List, [], _∷_}
+use mathlib.Core.Path.{_≡_}
+use mathlib.Core.Bool.{Bool, cond}
 use Rattle.refusal.specs.declared.Refusal.{Refusal}
 use Rattle.refusal.specs.declared.Numbered.{Numbered}
 use Rattle.refusal.specs.declared.Checked.{Checked}
@@ -11,6 +12,11 @@ use Rattle.records.specs.declared.MarkRecord.{MarkRecord}
 use Rattle.picks.specs.declared.PickAnswer.{PickAnswer}
 use Rattle.refusal.specs.declared.Decided.{Decided}
 use Rattle.conflict.specs.Conflict.{ConflictAllows}
+use Rattle.paper.specs.Rules.{Rule}
+use Rattle.words.specs.Layout.{rulesOf}
+use Rattle.words.specs.Check.{tableCheck, AcceptedTable}
+use Rattle.least.specs.declared.WhichGroup.{WhichGroup}
+use Rattle.least.specs.Groups.{WhichAllows}
 use Rattle.evaluation.specs.Evaluation.{EvaluationAllows}
 use Rattle.reader.specs.declared.Role.{Role}
 use Rattle.reader.specs.declared.SheetLiteral.{SheetLiteral}
@@ -63,6 +69,18 @@ pub data CountPacked (r : MarkRecord) : ℕ → Type 0 where
 -- the question of conflict: what crates/conflict allows, packed
 pub data ConflictPacked (N : ℕ) (t : List ℕ) : ℕ → Type 0 where
   answers : {a : Decided} → ConflictAllows N t a → ConflictPacked N t (decidedNumber a)
+
+-- which group: its number, 65 for none
+abbrev pub whichNumber : WhichGroup → ℕ
+whichNumber (WhichGroup.Number g) = g
+whichNumber WhichGroup.None = 65
+
+-- what crates/least allows of the first rule of an accepted table, packed; 66 where it has none
+pub data WhichPacked (N : ℕ) (t : List ℕ) (S : ℕ → Bool) : ℕ → Type 0 where
+  refused : {f : Refusal} → tableCheck N t ≡ Checked.Refused f → WhichPacked N t S (packedWrapping f)
+  no-rule : AcceptedTable N t → rulesOf t ≡ [] → WhichPacked N t S 66
+  answers : {ρ : Rule} {R : List Rule} {w : WhichGroup} → AcceptedTable N t → rulesOf t ≡ ρ ∷ R → WhichAllows S (ρ .groups) w
+      → WhichPacked N t S (whichNumber w)
 
 -- whole evaluation: what crates/evaluation allows, packed
 pub data EvaluationPacked (N : ℕ) (t room : List ℕ) : ℕ → List ℕ → Type 0 where

@@ -1,4 +1,5 @@
 // The entries for tests, over numbers and lent rows; tests/probe.h says how each answer is packed into one number.
+use least::WhichGroup;
 use picks::PickAnswer;
 use reader::Reading;
 use reader::Role;
@@ -14,8 +15,9 @@ ghost use Rattle.truth.specs.Connectives.{conjunction, disjunction, negated, im
 ghost use Rattle.words.specs.Check.{tableCheck};
 ghost use Prim.Native.Nat.{_≤_};
 ghost use lib.ListN.{length};
+ghost use Rattle.bits.specs.Sets.{member};
 ghost use Rattle.reader.specs.Readings.{readingAt, placeAfter, nextAt};
-ghost use Rattle.probe.specs.Packed.{packedWrapping, checkedNumber, numberedNumber, decidedNumber, pickNumber, FreshPacked, PickPacked, SettledPacked, ReportPacked, CountPacked, ConflictPacked, EvaluationPacked, roleNumber, literalNumber, readingNumber, nameStart, nameLength, sheetNumber, sheetAtoms, sheetWords, SheetPacked};
+ghost use Rattle.probe.specs.Packed.{packedWrapping, checkedNumber, numberedNumber, decidedNumber, pickNumber, FreshPacked, PickPacked, SettledPacked, ReportPacked, CountPacked, ConflictPacked, whichNumber, WhichPacked, EvaluationPacked, roleNumber, literalNumber, readingNumber, nameStart, nameLength, sheetNumber, sheetAtoms, sheetWords, SheetPacked};
 
 // 2^32 times the number, plus the place.
 fn packed_refusal(r: Refusal) -> u64
@@ -154,6 +156,30 @@ pub extern "C" fn probe_conflict(n: u64, table: &[u16]) -> u64
     ensures { λ r. ⌜ ConflictPacked n (now (table .entry)) r ⌝ }
 {
     decided_number(conflict::in_conflict(n, table))
+}
+
+fn which_number(which: WhichGroup) -> u64
+    ensures { λ n. ⌜ n ≡ whichNumber which ⌝ }
+{
+    match which {
+        WhichGroup::Number(g) => g as u64,
+        WhichGroup::None => 65,
+    }
+}
+
+#[no_mangle]
+pub extern "C" fn probe_which_group(n: u64, table: &[u16], set: &[u64]) -> u64
+    ensures { λ r. ⌜ WhichPacked n (now (table .entry)) (member (now (set .entry))) r ⌝ }
+{
+    if let Checked::Refused(r) = words::check(n, table) {
+        return packed_refusal(r);
+    }
+    if 0 < table.len() {
+        let body = least::which_group(table, set, 0);
+        let which = body.which;
+        return which_number(which);
+    }
+    66
 }
 
 #[no_mangle]

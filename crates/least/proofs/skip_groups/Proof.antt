@@ -2,11 +2,10 @@ use borrow.Author.Needs.{needs}
 use Prim.Native.Nat.{_≤_}
 use native.Mathlib.Omega.{arith}
 use mathlib.Core.Path.{_≡_, refl, _∙_}
-use mathlib.Core.Bool.{true, false}
 use lib.ListN.{length, drop}
 use Rattle.words.specs.RecordAt.{WholeGroups}
 use Rattle.words.specs.Layout.{dropGroups}
-use Rattle.least.proofs.Walk.{group-inside, group-fits, body-goes-on, groups-end}
+use Rattle.least.proofs.Walk.{group-inside, group-fits, groups-go-on, groups-end}
 use Rattle.least.proofs.skip_groups.Statement.{statement}
 use Rattle.least.proofs.skip_groups.Tie as tie
 
@@ -54,8 +53,8 @@ loop-again : tie.Need-loop-again Inv-loop μ-loop
 loop-again c =
     let entry = c .before .before .before .before in
     let at-loop = c .before .before .loop in
-    let q = body-goes-on (λ l. false) (entry .args .table .now) (at-loop .at) (at-loop .left) (c .word-inside .result) true true
-    (at-loop .inv .2) (c .before .loop-test .taken) (c .word-inside .ensures .0) refl in
+    let q = groups-go-on (entry .args .table .now) (at-loop .at) (at-loop .left) (c .word-inside .result)
+    (at-loop .inv .2) (c .before .loop-test .taken) (c .word-inside .ensures .0) in
     (q .inside, omega arith, q .whole, q .after-same ∙ at-loop .inv .3)
 
 returns : tie.Need-returns Inv-loop μ-loop
