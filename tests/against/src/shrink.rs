@@ -1,6 +1,6 @@
 //! Smaller inputs on which a test still fails.
 
-use second::random::line_places;
+use second::random::head_places;
 use second::table::{Record, encode, parse};
 
 /// The row without parts that the failure does not need: no further part, down to a single element, can go.
@@ -69,8 +69,7 @@ pub fn smaller_table(words: &[u16], mut fails: impl FnMut(&[u16]) -> bool) -> Ve
 
 /// The records in front that are sound, and the words from the first one that is not.
 fn sound_part(words: &[u16]) -> (Vec<Record>, Vec<u16>) {
-    let heads = line_places(words).into_iter().map(|line| line - 1);
-    let ends: Vec<usize> = heads.chain([words.len()]).collect();
+    let ends: Vec<usize> = head_places(words).into_iter().chain([words.len()]).collect();
     let sound = |end: usize| Some((parse(512, &words[..end]).ok()?, words[end..].to_vec()));
     ends.into_iter().rev().find_map(sound).unwrap_or((Vec::new(), words.to_vec()))
 }

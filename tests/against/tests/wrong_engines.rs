@@ -4,7 +4,7 @@ use against::cases::Tally;
 use against::entries::{ALREADY_MARKED, Answer, Entries, MARKED, NO, Second, YES};
 use against::trace::{Plan, Trace, parting, random_trace, shortest};
 use second::marking::MarkRecord;
-use second::random::{self, Chance, WordRole, line_places, word_roles};
+use second::random::{self, Chance, WordRole, head_places, line_places, word_roles};
 use second::refusal::Refusal;
 use second::truth::I;
 
@@ -137,7 +137,7 @@ fn fault(n: u64, words: &[u16]) -> Option<Refusal> {
 
 /// The records in front of the one with a faulty word.
 fn sound_records(words: &[u16], place: u64) -> &[u16] {
-    let mut heads = line_places(words).into_iter().map(|line| line - 1);
+    let mut heads = head_places(words).into_iter();
     &words[..heads.rfind(|&head| head as u64 <= place).unwrap_or(0)]
 }
 

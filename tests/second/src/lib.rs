@@ -1,9 +1,9 @@
 //! Simmerknot once more, written from documents 01 and 02 alone, to compare the engine with.
 //!
-//! One file for each section of document 01, from the bottom up, W1 to W3 of document 02 taken in:
-//! `refusal` (the numbers), `truth` (values and truth tables), `table` (the word table), `model` (Held, Clean,
-//! evaluation and the question of conflict), `marking` (the mark record and picks), `reader` and `sheet` (rule sheet and value sheet), `program`
-//! and `host`.
+//! One file for each section of document 01, from the bottom up, W1 to W4 of document 02 taken in:
+//! `refusal` (the numbers), `truth` (values and truth tables), `table` (the word table), `model` (which group of a body is wholly in a set,
+//! Held, Clean, evaluation and the question of conflict), `marking` (the mark record and picks), `reader` and `sheet` (rule sheet and value
+//! sheet), `program` and `host`.
 //!
 //! Beside them: `judge` (Definitions 5, 6, 8 and 9 by brute force), `random` (seeded generators) and `tables` (P1 to P12
 //! and the tables to measure on).

@@ -36,7 +36,8 @@ impl MarkRecord {
         Ok(())
     }
 
-    fn marked(&self) -> Vec<bool> {
+    /// One entry for each atom.
+    pub fn marked(&self) -> Vec<bool> {
         (0..self.n as usize).map(|atom| self.has(atom)).collect()
     }
 

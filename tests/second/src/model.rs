@@ -1,16 +1,49 @@
-//! Model wanted: Held, Clean, which atoms can be marked, whole evaluation, and the question of conflict.
+//! Model wanted: which group of a body is wholly in a set, Held, Clean, which atoms can be marked, whole evaluation, and the question of
+//! conflict.
 
 use crate::refusal::*;
-use crate::table::{self, Rule, atom_of};
+use crate::table::{self, Literal, Rule, atom_of};
 use crate::truth::{F, I, T, U};
 
-/// The least set of literals that contains `start` and the head of each rule given that fires in it.
+/// The number of the lowest group of a body that is wholly in the set, from 1 (document 02, W4); 0 for a fact, `None` if no group is.
+pub fn which_group(groups: &[Vec<Literal>], set: &[bool]) -> Option<usize> {
+    if groups.is_empty() {
+        return Some(0);
+    }
+    let before = groups.iter().position(|group| group.iter().all(|&literal| set[literal]))?;
+    Some(before + 1)
+}
+
+/// What is said of a table's first record.
+#[derive(Clone, Copy, Debug, PartialEq, Eq)]
+pub enum OfFirst {
+    Group(usize),
+    NoGroup,
+    NoRecord,
+}
+
+/// Which group of the table's first record is wholly in the set: literal l is bit l mod 64, lowest first, of word l div 64, and one past
+/// the words is not in it. 1, 2, then the table's words.
+pub fn which_group_of_first(n: u64, words: &[u16], set: &[u64]) -> Result<OfFirst, Refusal> {
+    table::check_n(n)?;
+    table::check_length(words)?;
+    let rules = table::rules_of(n, words)?;
+    let has = |literal: Literal| set.get(literal / 64).is_some_and(|word| word >> (literal % 64) & 1 == 1);
+    let set: Vec<bool> = (0..2 * n as usize).map(has).collect();
+    Ok(match rules.first().map(|rule| which_group(&rule.groups, &set)) {
+        Some(Some(number)) => OfFirst::Group(number),
+        Some(None) => OfFirst::NoGroup,
+        None => OfFirst::NoRecord,
+    })
+}
+
+/// The least set of literals that contains `start` and the head of each rule given that is a fact or has a group wholly in it.
 fn least_set(start: Vec<bool>, rules: &[&Rule]) -> Vec<bool> {
     let mut set = start;
     loop {
         let mut grown = false;
         for rule in rules {
-            if !set[rule.head] && rule.fires_in(&set) {
+            if !set[rule.head] && which_group(&rule.groups, &set).is_some() {
                 set[rule.head] = true;
                 grown = true;
             }

@@ -22,13 +22,6 @@ pub struct Rule {
     pub groups: Vec<Vec<Literal>>,
 }
 
-impl Rule {
-    /// Whether the rule is a fact or one of its groups lies wholly in the set.
-    pub fn fires_in(&self, set: &[bool]) -> bool {
-        self.groups.is_empty() || self.groups.iter().any(|group| group.iter().all(|&literal| set[literal]))
-    }
-}
-
 /// One record: a rule, and the line of the sheet it came from, or 0. No answer depends on the line.
 #[derive(Clone, Debug, PartialEq, Eq)]
 pub struct Record {

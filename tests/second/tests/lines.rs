@@ -2,7 +2,7 @@
 
 use second::host::{simmerknot_conflict, simmerknot_evaluate};
 use second::marking::{MarkRecord, Picked, fresh, pick, report, settled};
-use second::model::{conflict, evaluate};
+use second::model::{OfFirst, conflict, evaluate, which_group_of_first};
 use second::random::{self, ALL_LINES, Chance, Lines, table_bytes};
 use second::refusal::Refusal;
 use second::sheet::{contents, line_of};
@@ -23,14 +23,16 @@ struct Said {
     host: Left<u64>,
     conflict: Result<bool, Refusal>,
     host_conflict: u64,
+    groups: Vec<Result<OfFirst, Refusal>>,
 }
 
-/// Picks from a fresh record or from one by hand, with questions and reports between them; then both evaluations, and the question of
-/// conflict in both ways.
+/// Picks from a fresh record or from one by hand, with questions, reports and the group of some record between them; then both evaluations,
+/// and the question of conflict in both ways.
 fn said(n: u64, words: &[u16], seed: u64) -> Said {
     let mut chance = Chance::new(seed);
     let mut record = if chance.one_in(2) { fresh(n).0 } else { random::record(&mut chance, n) };
-    let (mut picks, mut asked, mut reports) = (Vec::new(), Vec::new(), Vec::new());
+    let tails: Vec<usize> = random::head_places(words).into_iter().chain([words.len()]).collect();
+    let (mut picks, mut asked, mut reports, mut groups) = (Vec::new(), Vec::new(), Vec::new(), Vec::new());
     for _ in 0..12 {
         let atom = random::any_atom(&mut chance, n);
         let picked = pick(&mut record, words, atom);
@@ -38,6 +40,8 @@ fn said(n: u64, words: &[u16], seed: u64) -> Said {
         asked.push(settled(&record, words));
         let mut room = random::value_room(&mut chance, n);
         reports.push((report(&record, words, &mut room), room));
+        let tail = &words[chance.of(&tails)..];
+        groups.push(which_group_of_first(n, tail, &random::any_set(&mut chance, n, tail)));
     }
     let mut room = random::value_room(&mut chance, n);
     let mut host_room = room.clone();
@@ -52,13 +56,14 @@ fn said(n: u64, words: &[u16], seed: u64) -> Said {
         host: (host, host_room),
         conflict: conflict(n, words),
         host_conflict: simmerknot_conflict(n, &table_bytes(words)),
+        groups,
     }
 }
 
 #[test]
 fn tables_that_differ_only_in_lines_have_equal_answers() {
     let (mut pairs, mut lines, mut values) = (0, 0, [0; 4]);
-    let (mut marked, mut reported, mut unsettled, mut small, mut conflicts) = (0, 0, 0, 0, [0; 2]);
+    let (mut marked, mut reported, mut unsettled, mut small, mut conflicts, mut groups) = (0, 0, 0, 0, [0; 2], [0; 4]);
     for seed in 0..3000 {
         let mut chance = Chance::new(seed);
         let (n, words) = random::accepted_table(&mut chance);
@@ -84,10 +89,17 @@ fn tables_that_differ_only_in_lines_have_equal_answers() {
         small += (one.host.0 == 3 << 32) as u32;
         assert_eq!(one.conflict.map(u64::from), Ok(one.host_conflict), "seed {seed}");
         conflicts[one.host_conflict as usize] += 1;
+        for group in one.groups.iter().flatten() {
+            match group {
+                OfFirst::Group(number) => groups[(*number).min(2)] += 1,
+                OfFirst::NoGroup => groups[3] += 1,
+                OfFirst::NoRecord => {}
+            }
+        }
     }
     assert!(pairs > 2000 && lines > 50_000 && values.iter().all(|&count| count > 5000), "{pairs} {lines} {values:?}");
     assert!(marked > 2000 && reported > 5000 && unsettled > 5000 && small > 200, "{marked} {reported} {unsettled} {small}");
-    assert!(conflicts.iter().all(|&count| count > 700), "{conflicts:?}");
+    assert!(conflicts.iter().all(|&count| count > 700) && groups.iter().all(|&count| count > 1000), "{conflicts:?} {groups:?}");
 }
 
 #[test]
@@ -145,8 +157,8 @@ fn the_place_of_a_complaint_tells_its_line() {
     // A word of a table by the line after the head of its record.
     let of_table = |words: &[u16]| {
         let at = check(2, words).expect_err("a refusal").place as usize;
-        let line = random::line_places(words).into_iter().rfind(|line| line - 1 <= at);
-        words[line.expect("a record")]
+        let head = random::head_places(words).into_iter().rfind(|&head| head <= at);
+        words[head.expect("a record") + 1]
     };
     assert_eq!(of_table(&[0, 7, 0, 1, 9, 1, 1, 4, 2, 11, 0]), 9);
     assert_eq!(of_table(&[0, 7, 0, 1, 9, 65]), 9);

@@ -1,6 +1,6 @@
 //! The generators draw what they say.
 
-use second::model::evaluate;
+use second::model::{OfFirst, evaluate, which_group, which_group_of_first};
 use second::random::*;
 use second::table::{Rule, check, encode, parse, rules_of};
 
@@ -106,6 +106,22 @@ fn each_kind_of_lines_is_what_it_says() {
     let some = drawn(Lines::SomeByHand);
     assert!(some.iter().filter(|&&line| line == 0).count() > 60);
     assert!(some.iter().enumerate().filter(|&(i, &line)| line == i + 1).count() > 60);
+}
+
+#[test]
+fn head_places_are_where_tails_begin() {
+    assert_eq!(head_places(&[]), []);
+    assert_eq!(head_places(&[0, 7, 2, 1, 0, 2, 1, 1, 1, 8, 0]), [0, 8]);
+    assert_eq!(head_places(&[0, 7, 0, 3]), [0, 3]);
+    for seed in 0..300 {
+        let (n, words) = accepted_table(&mut Chance::new(seed));
+        let rules = rules_of(n, &words).unwrap();
+        let places = head_places(&words);
+        assert_eq!(places.len(), rules.len(), "seed {seed}");
+        for (record, at) in places.into_iter().enumerate() {
+            assert_eq!(rules_of(n, &words[at..]).unwrap(), rules[record..], "seed {seed}");
+        }
+    }
 }
 
 #[test]
@@ -255,4 +271,63 @@ fn text_rooms_fit_or_fit_the_lines_of_the_heads_alone() {
     }
     let met = [below, heads_alone, exact, more];
     assert!(below > 100 && heads_alone > 250 && exact > 350 && more > 1000, "{met:?}");
+}
+
+#[test]
+fn sets_are_what_they_say() {
+    assert_eq!(set_of(2, &[vec![0, 0], vec![3]]), [true, false, false, true]);
+    assert_eq!(set_of(0, &[]), []);
+    let row = set_of(65, &[vec![0, 63, 64, 66, 129]]);
+    assert_eq!(set_words(&row), [1 << 63 | 1, 0b101, 0b10]);
+    assert_eq!(set_words(&row[..64]), [1 << 63 | 1]);
+    assert_eq!(set_words(&[]), []);
+    let (mut cut, mut longer, mut of_17, mut past) = (0, 0, 0, 0);
+    for seed in 0..2000 {
+        let mut chance = Chance::new(seed);
+        let words = any_set_words(&mut chance, &row);
+        assert!(words.len() <= 17, "seed {seed}");
+        let same = words.len().min(2);
+        assert_eq!(words[..same], set_words(&row)[..same], "seed {seed}");
+        assert_eq!(words.get(2).map_or(0b10, |word| word & 0b11), 0b10, "seed {seed}");
+        cut += (words.len() < 3) as u32;
+        longer += (words.len() == 4) as u32;
+        of_17 += (words.len() == 17) as u32;
+        past += words.get(2).is_some_and(|word| *word > 0b11) as u32;
+    }
+    assert!([cut, longer, of_17].iter().all(|&count| count > 50) && past > 1500, "{cut} {longer} {of_17} {past}");
+}
+
+#[test]
+fn body_sets_make_any_group_the_lowest() {
+    // No group holds another, so that each can be the lowest, and all are of three literals.
+    let groups: Vec<Vec<usize>> = (0..8).map(|g| vec![3 * g, 3 * g + 1, 3 * g + 2]).collect();
+    let (mut lowest, mut alone, mut less_one) = ([0; 9], 0, 0);
+    for seed in 0..4000 {
+        let set = body_set(&mut Chance::new(seed), 12, &groups);
+        lowest[which_group(&groups, &set).unwrap_or(0)] += 1;
+        let size = set.iter().filter(|&&is_in| is_in).count();
+        alone += (size == 3 && which_group(&groups, &set).is_some()) as u32;
+        less_one += (size == 2) as u32;
+    }
+    assert!(lowest.iter().all(|&count| count > 200) && alone > 400 && less_one > 400, "{lowest:?} {alone} {less_one}");
+    let facts = (0..100).map(|seed| body_set(&mut Chance::new(seed), 4, &[])).collect::<std::collections::BTreeSet<_>>();
+    assert!(facts.len() > 20, "{}", facts.len());
+}
+
+#[test]
+fn any_set_gives_every_answer() {
+    let (mut groups, mut no_group, mut no_record, mut refused) = ([0; 4], 0, 0, 0);
+    for seed in 0..6000 {
+        let mut chance = Chance::new(seed);
+        let (n, words) = any_table(&mut chance);
+        let set = any_set(&mut chance, n, &words);
+        match which_group_of_first(n, &words, &set) {
+            Ok(OfFirst::Group(number)) => groups[number.min(3)] += 1,
+            Ok(OfFirst::NoGroup) => no_group += 1,
+            Ok(OfFirst::NoRecord) => no_record += 1,
+            Err(_) => refused += 1,
+        }
+    }
+    let met = [groups[0], groups[1], groups[2], groups[3], no_group, no_record, refused];
+    assert!(met.iter().all(|&count| count > 30), "{met:?}");
 }

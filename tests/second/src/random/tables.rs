@@ -212,10 +212,20 @@ pub fn word_roles(words: &[u16]) -> Vec<WordRole> {
     roles
 }
 
+/// Where the words of this role stand in a table.
+fn places_of(words: &[u16], role: WordRole) -> Vec<usize> {
+    let roles = word_roles(words);
+    (0..words.len()).filter(|&at| roles[at] == role).collect()
+}
+
 /// Where the line words of a table stand.
 pub fn line_places(words: &[u16]) -> Vec<usize> {
-    let roles = word_roles(words);
-    (0..words.len()).filter(|&at| roles[at] == WordRole::Line).collect()
+    places_of(words, WordRole::Line)
+}
+
+/// Where the heads of a table stand: from each on it is a table in which that record is the first.
+pub fn head_places(words: &[u16]) -> Vec<usize> {
+    places_of(words, WordRole::Head)
 }
 
 /// A line at the edges of its range, or anywhere in 16 bits.
@@ -285,7 +295,7 @@ pub fn damage_table(chance: &mut Chance, n: &mut u64, words: &mut Vec<u16>, dama
 
 /// Makes two or three of the first three words of a record faulty, so that the order within a record shows.
 pub fn damage_record(chance: &mut Chance, n: u64, words: &mut [u16]) {
-    let heads: Vec<usize> = line_places(words).into_iter().map(|line| line - 1).filter(|head| head + 2 < words.len()).collect();
+    let heads: Vec<usize> = head_places(words).into_iter().filter(|head| head + 2 < words.len()).collect();
     if heads.is_empty() {
         return;
     }
