@@ -2,10 +2,9 @@
 //!
 //! A case is drawn from the seed and its own number alone, so that it can be run again by itself: an input of `second::random`,
 //! altered a few times (`alter`), and buffers to lend. Both sides must answer the same and leave the same bytes. The engine's
-//! buffers lie against pages that can be neither read nor written (`pages`).
+//! buffers lie against pages that can be neither read nor written (`against::pages`).
 
 pub mod alter;
-pub mod pages;
 pub mod targets;
 
 use std::sync::atomic::{AtomicU64, Ordering};

@@ -10,7 +10,7 @@ use std::process::exit;
 use std::sync::atomic::{AtomicU64, Ordering};
 use std::time::{Duration, Instant};
 
-use fuzz::pages::Pages;
+use against::pages::Pages;
 use fuzz::{RUNNING, Target, drawn, run, targets};
 
 unsafe extern "C" {

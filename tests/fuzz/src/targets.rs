@@ -5,10 +5,10 @@ use std::path::PathBuf;
 use std::process::{Command, Stdio};
 use std::sync::atomic::{AtomicU64, Ordering};
 
+use against::pages::Pages;
 use second::host::whole_words;
 use second::random::{self, Chance};
 
-use crate::pages::Pages;
 use crate::{Case, Outcome, Target, alter};
 
 fn packed_kind(outcome: &Outcome) -> String {

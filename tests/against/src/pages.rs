@@ -2,6 +2,8 @@
 
 use std::ffi::{c_int, c_void};
 
+use crate::guard::Fill;
+
 unsafe extern "C" {
     fn mmap(at: *mut c_void, length: usize, protection: c_int, flags: c_int, file: c_int, offset: i64) -> *mut c_void;
     fn mprotect(at: *mut c_void, length: usize, protection: c_int) -> c_int;
@@ -49,12 +51,13 @@ impl Pages {
         self.lent_mut().copy_from_slice(bytes);
     }
 
-    /// The bytes, to be read alone: a write to them ends the process.
-    pub fn read_only(&mut self, bytes: &[u8], behind: bool) -> &[u8] {
+    /// The row, to be read alone: a write to it ends the process.
+    pub fn read_only<T: Fill>(&mut self, row: &[T], behind: bool) -> &[T] {
         self.protect(READ_WRITE);
-        self.lay(bytes, behind);
+        // Numbers of any width are bytes, and both ends of the area suit them all.
+        self.lay(unsafe { std::slice::from_raw_parts(row.as_ptr().cast(), size_of_val(row)) }, behind);
         self.protect(READ);
-        self.lent()
+        unsafe { std::slice::from_raw_parts(self.lent().as_ptr().cast(), row.len()) }
     }
 
     pub fn to_write(&mut self, bytes: &[u8], behind: bool) -> &mut [u8] {
