@@ -57,6 +57,12 @@ uint64_t probe_evaluate(uint64_t n, const uint16_t *table, size_t words, uint8_t
 /* 0: no, 1: yes; refuses 1, 2, words. */
 uint64_t probe_conflict(uint64_t n, const uint16_t *table, size_t words);
 
+/* Which group of the table's first record is wholly in the set: 0 it is a fact, 1 to 64 the number of the lowest such group,
+ * 65 none, 66 the table has no record; refuses 1, 2, words. The set is 64-bit words and how many: literal l is bit l mod 64,
+ * lowest first, of word l div 64, and a literal past them is not in it; with 0 of them any pointer is taken, NULL too. Reads
+ * only; writes nothing. */
+uint64_t probe_which_group(uint64_t n, const uint16_t *table, size_t words, const uint64_t *set, size_t set_words);
+
 /* The reading at `*place`: 0 the end, 2 a head, 4 first of a group, 6 further in a group, 1 more if it is negated; refuses
  * 8, 10, 11. `*place` is the next place afterwards, `*start` and `*len` the name's place and length, 0 where there is none. */
 uint64_t probe_reading(const uint8_t *sheet, size_t sheet_len, size_t *place, size_t *start, size_t *len);

@@ -1,6 +1,7 @@
 //! The entries of `tests/probe.h`, and the same entries of the second implementation.
 
 use second::marking::{self, MarkRecord, Picked};
+use second::model::OfFirst;
 use second::refusal::Refusal;
 use second::{model, table, truth};
 
@@ -16,6 +17,10 @@ pub const CANNOT_BE_MARKED_NOW: u64 = 2;
 pub const NO: u64 = 0;
 pub const YES: u64 = 1;
 
+pub const FACT: u64 = 0;
+pub const NO_GROUP: u64 = 65;
+pub const NO_RECORD: u64 = 66;
+
 unsafe extern "C" {
     safe fn probe_and(v: u64, w: u64) -> u64;
     safe fn probe_or(v: u64, w: u64) -> u64;
@@ -29,6 +34,7 @@ unsafe extern "C" {
     fn probe_mark_count(n: u64, marks: *const u64) -> u64;
     fn probe_evaluate(n: u64, table: *const u16, words: usize, values: *mut u8, room: usize) -> u64;
     fn probe_conflict(n: u64, table: *const u16, words: usize) -> u64;
+    fn probe_which_group(n: u64, table: *const u16, words: usize, set: *const u64, set_words: usize) -> u64;
 }
 
 /// A packed number taken apart: from 2^32 on a refusal.
@@ -53,6 +59,18 @@ pub trait Entries {
     fn mark_count(&self, record: &MarkRecord) -> Answer;
     fn evaluate(&self, n: u64, words: &[u16], values: &mut [u8]) -> Answer;
     fn conflict(&self, n: u64, words: &[u16]) -> Answer;
+    fn which_group(&self, n: u64, words: &[u16], set: &[u64]) -> Answer;
+}
+
+/// Which group of the first record is wholly in the set, lent these very slices.
+pub fn which_group(n: u64, words: &[u16], set: &[u64]) -> Answer {
+    unpacked(unsafe { probe_which_group(n, words.as_ptr(), words.len(), set.as_ptr(), set.len()) })
+}
+
+/// The same with a null pointer for an empty set, and for a table that is empty.
+pub fn which_group_nulls(n: u64, words: &[u16]) -> Answer {
+    let table = if words.is_empty() { std::ptr::null() } else { words.as_ptr() };
+    unpacked(unsafe { probe_which_group(n, table, words.len(), std::ptr::null(), 0) })
 }
 
 /// The proved engine.
@@ -159,6 +177,14 @@ impl Entries for Engine {
     fn conflict(&self, n: u64, words: &[u16]) -> Answer {
         unpacked(unsafe { probe_conflict(n, words.as_ptr(), words.len()) })
     }
+
+    fn which_group(&self, n: u64, words: &[u16], set: &[u64]) -> Answer {
+        let (lent, lent_set) = (Guarded::new(words, 3), Guarded::new(set, 2));
+        let answer = which_group(n, lent.row(), lent_set.row());
+        assert!(lent == Guarded::new(words, 3), "the table was altered");
+        assert!(lent_set == Guarded::new(set, 2), "the set was altered");
+        answer
+    }
 }
 
 /// The second implementation.
@@ -218,5 +244,13 @@ impl Entries for Second {
 
     fn conflict(&self, n: u64, words: &[u16]) -> Answer {
         model::conflict(n, words).map(u64::from)
+    }
+
+    fn which_group(&self, n: u64, words: &[u16], set: &[u64]) -> Answer {
+        model::which_group_of_first(n, words, set).map(|said| match said {
+            OfFirst::Group(number) => number as u64,
+            OfFirst::NoGroup => NO_GROUP,
+            OfFirst::NoRecord => NO_RECORD,
+        })
     }
 }

@@ -36,6 +36,19 @@ pub fn smaller(number: u64, mut fails: impl FnMut(u64) -> bool) -> u64 {
     candidates.into_iter().find(|&n| fails(n)).unwrap_or(number)
 }
 
+/// The words without the bits that the failure does not need.
+pub fn fewer_bits(words: &[u64], mut fails: impl FnMut(&[u64]) -> bool) -> Vec<u64> {
+    let mut words = words.to_vec();
+    for (at, bit) in (0..words.len()).flat_map(|at| (0..64).map(move |bit| (at, bit))) {
+        let mut fewer = words.clone();
+        fewer[at] &= !(1 << bit);
+        if fewer != words && fails(&fewer) {
+            words = fewer;
+        }
+    }
+    words
+}
+
 /// A table without the records, groups, literals, lines and words that the failure does not need.
 pub fn smaller_table(words: &[u16], mut fails: impl FnMut(&[u16]) -> bool) -> Vec<u16> {
     let (records, rest) = sound_part(words);

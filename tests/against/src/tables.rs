@@ -4,7 +4,7 @@ use second::random::{WordRole, word_roles};
 use second::refusal::*;
 
 use crate::cases::Tally;
-use crate::entries::{Answer, YES};
+use crate::entries::{Answer, FACT, NO_GROUP, NO_RECORD, YES};
 
 /// 6 at a line word.
 pub const AT_A_LINE: &str = "6 at a line";
@@ -59,6 +59,19 @@ pub fn note_question(tally: &mut Tally, what: &str, words: &[u16], answer: &Answ
     match answer {
         Ok(said) => tally.note(&format!("{what} {}", if *said == YES { "yes" } else { "no" })),
         Err(_) => note(tally, what, words, answer),
+    }
+}
+
+/// Notes the answer to which group of a table's first record is wholly in a set, and of what kind it was.
+pub fn note_group(tally: &mut Tally, what: &str, words: &[u16], answer: &Answer) {
+    note(tally, what, words, answer);
+    if let Ok(said) = answer {
+        tally.also(match *said {
+            FACT => "a fact",
+            NO_GROUP => "no group",
+            NO_RECORD => "no record",
+            _ => "a group",
+        });
     }
 }
 

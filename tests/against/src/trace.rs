@@ -9,7 +9,7 @@ use second::table;
 
 use crate::cases::Tally;
 use crate::entries::{ALREADY_MARKED, Answer, Entries, MARKED, Second};
-use crate::shrink::{smaller, smaller_table, without_parts};
+use crate::shrink::{fewer_bits, smaller, smaller_table, without_parts};
 use crate::tables;
 
 /// One call; a table is named by its number in the trace.
@@ -23,6 +23,8 @@ pub enum Step {
     Settled { table: usize },
     /// No record is lent: N is the step's own.
     Conflict { n: u64, table: usize },
+    /// Likewise; the table's first record is asked.
+    WhichGroup { n: u64, table: usize, set: Vec<u64> },
     /// The value room holds the bytes of `filling`, from a seed.
     Report { table: usize, room: usize, filling: u64 },
     Count,
@@ -95,6 +97,12 @@ pub fn parting(trace: &Trace, engine: &impl Entries, tally: &mut Tally) -> Optio
                 let right = Second.conflict(n, words);
                 tables::note_question(tally, "conflict", words, &right);
                 (engine.conflict(n, words), right)
+            }
+            Step::WhichGroup { n, table, ref set } => {
+                let words = &trace.tables[table];
+                let right = Second.which_group(n, words, set);
+                tables::note_group(tally, "which", words, &right);
+                (engine.which_group(n, words, set), right)
             }
             Step::Report { table, room, filling } => {
                 let words = &trace.tables[table];
@@ -169,18 +177,10 @@ fn simplify(trace: &mut Trace, step: usize, mut fails: impl FnMut(&Trace) -> boo
     };
     let simpler = match trace.steps[step] {
         Step::Fresh(n) => Step::Fresh(smaller(n, |n| with(Step::Fresh(n)))),
-        Step::Forge(mut record) => {
-            for word in 0..8 {
-                for bit in 0..64 {
-                    let mut fewer = record;
-                    fewer.marks[word] &= !(1 << bit);
-                    if fewer != record && with(Step::Forge(fewer)) {
-                        record = fewer;
-                    }
-                }
-            }
-            record.n = smaller(record.n, |n| with(Step::Forge(MarkRecord { n, ..record })));
-            Step::Forge(record)
+        Step::Forge(MarkRecord { n, marks }) => {
+            let forge = |n: u64, marks: &[u64]| Step::Forge(MarkRecord { n, marks: marks.try_into().expect("eight words") });
+            let marks = fewer_bits(&marks, |marks| with(forge(n, marks)));
+            forge(smaller(n, |n| with(forge(n, &marks))), &marks)
         }
         Step::Pick { table, atom } => {
             Step::Pick { table, atom: smaller(atom, |atom| with(Step::Pick { table, atom })) }
@@ -190,6 +190,12 @@ fn simplify(trace: &mut Trace, step: usize, mut fails: impl FnMut(&Trace) -> boo
             report(smaller(room as u64, |room| with(report(room))))
         }
         Step::Conflict { n, table } => Step::Conflict { n: smaller(n, |n| with(Step::Conflict { n, table })), table },
+        Step::WhichGroup { n, table, ref set } => {
+            let asked = |n: u64, set: &[u64]| Step::WhichGroup { n, table, set: set.to_vec() };
+            let set = without_parts(set, |set| with(asked(n, set)));
+            let set = fewer_bits(&set, |set| with(asked(n, set)));
+            asked(smaller(n, |n| with(asked(n, &set))), &set)
+        }
         Step::Settled { table } => Step::Settled { table },
         Step::Count => Step::Count,
     };
@@ -233,11 +239,12 @@ pub fn random_trace(chance: &mut Chance, plan: Plan) -> Trace {
         let table = chance.index(tables.len());
         steps.push(match chance.below(100) {
             _ if chance.percent(plan.forged) => Step::Forge(forged(chance, n, &tables[table])),
-            0..56 => Step::Pick { table, atom: random::any_atom(chance, n) },
-            56..69 => Step::Settled { table },
-            69..74 => {
-                let n = if chance.one_in(6) { random::awkward_number(chance, n) } else { n };
-                Step::Conflict { n, table }
+            0..50 => Step::Pick { table, atom: random::any_atom(chance, n) },
+            50..63 => Step::Settled { table },
+            63..68 => Step::Conflict { n: any_n(chance, n), table },
+            68..74 => {
+                let n = any_n(chance, n);
+                Step::WhichGroup { n, table, set: random::any_set(chance, n, &tables[table]) }
             }
             74..90 => Step::Report { table, room: random::value_room(chance, n).len(), filling: chance.number() },
             90..98 => Step::Count,
@@ -246,6 +253,11 @@ pub fn random_trace(chance: &mut Chance, plan: Plan) -> Trace {
         });
     }
     Trace { tables, steps }
+}
+
+/// N, once in six times another near it.
+fn any_n(chance: &mut Chance, n: u64) -> u64 {
+    if chance.one_in(6) { random::awkward_number(chance, n) } else { n }
 }
 
 /// A record by hand: any, refused ones among them; the settled one of the table, or a part of it.

@@ -1,7 +1,7 @@
 //! Accepted tables that differ only in line words: the engine answers the same and leaves the same, and so does the second implementation.
 
 use against::cases::cases;
-use against::entries::{Answer, Engine, Entries, MARKED, Second, unpacked};
+use against::entries::{Answer, Engine, Entries, MARKED, NO_GROUP, Second, unpacked};
 use against::guard::Guarded;
 use against::host;
 use second::host::{simmerknot_conflict, simmerknot_evaluate};
@@ -49,10 +49,11 @@ struct Said {
     host: (u64, Vec<u8>),
     conflict: Answer,
     host_conflict: u64,
+    groups: Vec<Answer>,
 }
 
-/// Picks from a fresh record or from one by hand, with questions and reports between them; then both evaluations, and the question of
-/// conflict in both ways.
+/// Picks from a fresh record or from one by hand, with questions and reports between them; then both evaluations, the question of
+/// conflict in both ways, and which group of some records is wholly in a set.
 fn said(side: &impl Entries, host: Host, n: u64, words: &[u16], seed: u64, picks_made: u64) -> Said {
     let mut chance = Chance::new(seed);
     let mut record = if chance.one_in(2) { side.fresh(n).0 } else { random::record(&mut chance, n) };
@@ -69,6 +70,11 @@ fn said(side: &impl Entries, host: Host, n: u64, words: &[u16], seed: u64, picks
     let mut host_room = room.clone();
     let evaluated = side.evaluate(n, words, &mut room);
     let hosted = (host.evaluate)(n, &table_bytes(words), &mut host_room);
+    let heads = random::head_places(words);
+    let group = |_| {
+        let tail = &words[heads.get(chance.index(heads.len() + 1)).copied().unwrap_or(words.len())..];
+        side.which_group(n, tail, &random::any_set(&mut chance, n, tail))
+    };
     Said {
         check: side.check(n, words),
         picks,
@@ -78,6 +84,7 @@ fn said(side: &impl Entries, host: Host, n: u64, words: &[u16], seed: u64, picks
         host: (hosted, host_room),
         conflict: side.conflict(n, words),
         host_conflict: (host.conflict)(n, &table_bytes(words)),
+        groups: (0..3).map(group).collect(),
     }
 }
 
@@ -104,6 +111,8 @@ struct Met {
     before_settled: u64,
     rooms_too_small: u64,
     conflicts: [u64; 2],
+    /// 0, 1, a higher number, none, no record.
+    groups: [u64; 5],
 }
 
 impl Met {
@@ -119,6 +128,9 @@ impl Met {
         self.before_settled += said.reports.iter().filter(|(answer, _)| *answer == Err(Refusal { number: 18, place: 0 })).count() as u64;
         self.rooms_too_small += (said.host.0 == 3 << 32) as u64;
         self.conflicts[said.host_conflict as usize] += 1;
+        for &group in said.groups.iter().flatten() {
+            self.groups[if group < NO_GROUP { group.min(2) } else { 3 + group - NO_GROUP } as usize] += 1;
+        }
     }
 }
 
@@ -148,6 +160,7 @@ fn small_tables() {
     assert!(met.settled.iter().all(|&count| count > cases(30_000)) && met.reports > cases(100_000), "{met:?}");
     assert!(met.before_settled > cases(20_000) && met.rooms_too_small > cases(2_000), "{met:?}");
     assert!(met.conflicts.iter().all(|&count| count > cases(5_000)), "{met:?}");
+    assert!(met.groups.iter().all(|&count| count > cases(2_000)), "{met:?}");
 }
 
 #[test]
@@ -157,6 +170,7 @@ fn large_tables() {
     assert!(met.values.iter().all(|&count| count > cases(1_000)) && met.marks > cases(50), "{met:?}");
     assert!(met.settled.iter().all(|&count| count > cases(50)) && met.reports > cases(50) && met.before_settled > cases(500), "{met:?}");
     assert!(met.conflicts.iter().all(|&count| count > cases(10)), "{met:?}");
+    assert!(met.groups[..4].iter().all(|&count| count > cases(5)), "{met:?}");
 }
 
 #[test]

@@ -1,4 +1,4 @@
-//! Random traces of picks, settled questions, reports and counts under one record, with questions of conflict between them.
+//! Random traces of picks, settled questions, reports and counts under one record, with questions of conflict and of groups between them.
 
 use against::cases::{Tally, cases};
 use against::entries::{ALREADY_MARKED, CANNOT_BE_MARKED_NOW, Engine, Entries, Second};
@@ -21,7 +21,7 @@ fn replay(seed: u64, count: u64, plan: Plan) -> Tally {
     tally
 }
 
-const ACCEPTED: [&str; 10] = [
+const ACCEPTED: [&str; 11] = [
     "fresh ok",
     "pick marked",
     "pick already marked",
@@ -32,15 +32,17 @@ const ACCEPTED: [&str; 10] = [
     "count ok",
     "conflict yes",
     "conflict no",
+    "which ok",
 ];
 
-const PLAIN_REFUSALS: [&str; 5] = ["fresh 1", "pick 16", "report 3", "report 18", "conflict 1"];
+const PLAIN_REFUSALS: [&str; 6] = ["fresh 1", "pick 16", "report 3", "report 18", "conflict 1", "which 1"];
 
-const AFTER_FRESH: [&str; 4] = ["pick 5", "settled 5", "report 5", "conflict 5"];
+const AFTER_FRESH: [&str; 5] = ["pick 5", "settled 5", "report 5", "conflict 5", "which 5"];
 
-const WORDS: [&str; 20] = [
+const WORDS: [&str; 25] = [
     "pick 2", "pick 4", "pick 5", "pick 6", "pick 7", "settled 2", "settled 4", "settled 5", "settled 6", "settled 7",
     "report 2", "report 4", "report 5", "report 6", "report 7", "conflict 2", "conflict 4", "conflict 5", "conflict 6", "conflict 7",
+    "which 2", "which 4", "which 5", "which 6", "which 7",
 ];
 
 const RECORDS: [&str; 8] =
@@ -52,6 +54,7 @@ fn one_small_table() {
     let tally = replay(1 << 40, cases(60_000), plan);
     // After a fresh record for another N, or by a question with another, literals may be too high.
     tally.expect(&[&ACCEPTED[..], &PLAIN_REFUSALS, &AFTER_FRESH].concat(), cases(1_000));
+    tally.expect_also(&["a fact", "a group", "no group", "no record"].map(|what| (what, cases(1_000))));
 }
 
 #[test]

@@ -1,14 +1,15 @@
 //! Engines that are wrong on purpose part from the second implementation in random traces, or on random sheets, and these shrink.
 
 use against::cases::Tally;
-use against::entries::{ALREADY_MARKED, Answer, Entries, MARKED, NO, Second, YES};
+use against::entries::{ALREADY_MARKED, Answer, Entries, FACT, MARKED, NO, NO_GROUP, NO_RECORD, Second, YES};
 use against::trace::{Plan, Trace, parting, random_trace, shortest};
 use second::marking::MarkRecord;
 use second::random::{self, Chance, WordRole, head_places, line_places, word_roles};
 use second::refusal::Refusal;
+use second::table::Literal;
 use second::truth::I;
 
-/// Wrong answers of marking by picks, of reading the words of a table, and to the question of conflict.
+/// Wrong answers of marking by picks, of reading the words of a table, to the question of conflict, and to which group is wholly in a set.
 #[derive(Clone, Copy, Debug, PartialEq, Eq)]
 enum Wrong {
     PickNeverMarks,
@@ -36,10 +37,20 @@ enum Wrong {
     ConflictWithWordsBefore1,
     ConflictWithWordsBefore2,
     ConflictWith2Before1,
+    HighestGroup,
+    GroupsFrom0,
+    NoGroupForAFact,
+    FactWhereTheFirstGroupIsIn,
+    LastLiteralOfAGroupNotSeen,
+    LastGroupNotSeen,
+    LastWordOfTheSetNotSeen,
+    LiteralPastTheSetTaken,
+    NoGroupForNoRecord,
+    GroupBeforeAFaultyWord,
 }
 
 /// Each beside the most steps of its shortest trace.
-const WRONG: [(Wrong, usize); 23] = [
+const WRONG: [(Wrong, usize); 33] = [
     (Wrong::PickNeverMarks, 2),
     (Wrong::FirstPickMarksEverything, 2),
     (Wrong::MadeUpCount, 4),
@@ -63,6 +74,16 @@ const WRONG: [(Wrong, usize); 23] = [
     (Wrong::ConflictWhereBothSignsHaveARule, 1),
     (Wrong::ConflictBeforeAFaultyWord, 1),
     (Wrong::ConflictWithWordsBefore1, 1),
+    (Wrong::HighestGroup, 1),
+    (Wrong::GroupsFrom0, 1),
+    (Wrong::NoGroupForAFact, 1),
+    (Wrong::FactWhereTheFirstGroupIsIn, 1),
+    (Wrong::LastLiteralOfAGroupNotSeen, 1),
+    (Wrong::LastGroupNotSeen, 1),
+    (Wrong::LastWordOfTheSetNotSeen, 1),
+    (Wrong::LiteralPastTheSetTaken, 1),
+    (Wrong::NoGroupForNoRecord, 1),
+    (Wrong::GroupBeforeAFaultyWord, 1),
 ];
 
 /// Noticed by tables above 8,192 words alone, which cannot shrink below that.
@@ -130,6 +151,15 @@ fn both_signs_have_a_rule(n: u64, words: &[u16]) -> bool {
     rules.iter().any(|rule| rules.iter().any(|other| other.head == second::table::negation(rule.head)))
 }
 
+/// The words with the groups of the first record altered; as they are if they are not sound.
+fn with_first_groups(n: u64, words: &[u16], alter: impl FnOnce(&mut Vec<Vec<Literal>>)) -> Vec<u16> {
+    let Ok(mut records) = second::table::parse(n, words) else { return words.to_vec() };
+    if let Some(first) = records.first_mut() {
+        alter(&mut first.rule.groups);
+    }
+    second::table::encode(&records)
+}
+
 /// The first faulty word, if there is one.
 fn fault(n: u64, words: &[u16]) -> Option<Refusal> {
     second::table::parse(n, words).err()
@@ -150,6 +180,30 @@ impl Wrong {
             Wrong::LineReadAsM => lines_put_in(words),
             Wrong::RecordByHandLeftOut if n <= 512 => without_records_by_hand(n, words),
             _ => words.to_vec(),
+        }
+    }
+
+    /// The words as the engine takes them where it says which group of the first record is wholly in a set.
+    fn groups_seen(&self, n: u64, words: &[u16]) -> Vec<u16> {
+        with_first_groups(n.min(512), words, |groups| match self {
+            Wrong::HighestGroup => groups.reverse(),
+            // What is not seen does not matter: what stands before it, once more.
+            Wrong::LastLiteralOfAGroupNotSeen => groups.iter_mut().for_each(|group| *group.last_mut().expect("a literal") = group[0]),
+            Wrong::LastGroupNotSeen => {
+                if let [.., before, last] = &mut groups[..] {
+                    last.clone_from(before);
+                }
+            }
+            _ => {}
+        })
+    }
+
+    /// The set as the engine takes it.
+    fn set_seen(&self, set: &[u64]) -> Vec<u64> {
+        match self {
+            Wrong::LastWordOfTheSetNotSeen => set[..set.len().saturating_sub(1)].to_vec(),
+            Wrong::LiteralPastTheSetTaken => [set, &[!0; 16]].concat(),
+            _ => set.to_vec(),
         }
     }
 
@@ -274,11 +328,28 @@ impl Entries for Wrong {
         };
         Ok(u64::from(yes))
     }
+
+    fn which_group(&self, n: u64, words: &[u16], set: &[u64]) -> Answer {
+        let seen = self.groups_seen(n, words);
+        let answer = self.ask(n, &seen, |words| Second.which_group(n, words, &self.set_seen(set)));
+        match (self, answer) {
+            (Wrong::GroupBeforeAFaultyWord, Err(Refusal { number: 4..=7, place })) => match sound_records(words, place) {
+                [] => answer,
+                sound => Second.which_group(n, sound, set),
+            },
+            (Wrong::HighestGroup, Ok(number @ 1..NO_GROUP)) => Ok(u64::from(words[2]) + 1 - number),
+            (Wrong::GroupsFrom0, Ok(number @ 1..NO_GROUP)) => Ok(number - 1),
+            (Wrong::FactWhereTheFirstGroupIsIn, Ok(1)) => Ok(FACT),
+            (Wrong::NoGroupForAFact, Ok(FACT)) | (Wrong::NoGroupForNoRecord, Ok(NO_RECORD)) => Ok(NO_GROUP),
+            _ => answer,
+        }
+    }
 }
 
+const PLAN: Plan = Plan { table: |chance| random::small_table(chance, 6), tables: 3, damaged: 15, forged: 5, steps: 40 };
+
 fn trace(seed: u64) -> Trace {
-    let plan = Plan { table: |chance| random::small_table(chance, 6), tables: 3, damaged: 15, forged: 5, steps: 40 };
-    random_trace(&mut Chance::new(seed), plan)
+    random_trace(&mut Chance::new(seed), PLAN)
 }
 
 #[test]
@@ -298,7 +369,8 @@ fn each_is_noticed_and_its_trace_shrinks() {
 #[test]
 fn each_is_noticed_by_a_long_table() {
     for wrong in WRONG_OF_LONG_TABLES {
-        let found = (0..500).find_map(|seed| parting(&trace(seed), &wrong, &mut Tally::default()));
+        let trace = |seed| random_trace(&mut Chance::new(seed), Plan { damaged: 90, ..PLAN });
+        let found = (0..2_000).find_map(|seed| parting(&trace(seed), &wrong, &mut Tally::default()));
         println!("{wrong:?}: {}", found.unwrap_or_else(|| panic!("{wrong:?} was not noticed")).what);
     }
 }

@@ -26,13 +26,12 @@ struct Said {
     groups: Vec<Result<OfFirst, Refusal>>,
 }
 
-/// Picks from a fresh record or from one by hand, with questions, reports and the group of some record between them; then both evaluations,
-/// and the question of conflict in both ways.
+/// Picks from a fresh record or from one by hand, with questions and reports between them; then both evaluations, the question of
+/// conflict in both ways, and which group of some records is wholly in a set.
 fn said(n: u64, words: &[u16], seed: u64) -> Said {
     let mut chance = Chance::new(seed);
     let mut record = if chance.one_in(2) { fresh(n).0 } else { random::record(&mut chance, n) };
-    let tails: Vec<usize> = random::head_places(words).into_iter().chain([words.len()]).collect();
-    let (mut picks, mut asked, mut reports, mut groups) = (Vec::new(), Vec::new(), Vec::new(), Vec::new());
+    let (mut picks, mut asked, mut reports) = (Vec::new(), Vec::new(), Vec::new());
     for _ in 0..12 {
         let atom = random::any_atom(&mut chance, n);
         let picked = pick(&mut record, words, atom);
@@ -40,13 +39,16 @@ fn said(n: u64, words: &[u16], seed: u64) -> Said {
         asked.push(settled(&record, words));
         let mut room = random::value_room(&mut chance, n);
         reports.push((report(&record, words, &mut room), room));
-        let tail = &words[chance.of(&tails)..];
-        groups.push(which_group_of_first(n, tail, &random::any_set(&mut chance, n, tail)));
     }
     let mut room = random::value_room(&mut chance, n);
     let mut host_room = room.clone();
     let answer = evaluate(n, words, &mut room);
     let host = simmerknot_evaluate(n, &table_bytes(words), &mut host_room);
+    let heads = random::head_places(words);
+    let group = |_| {
+        let tail = &words[heads.get(chance.index(heads.len() + 1)).copied().unwrap_or(words.len())..];
+        which_group_of_first(n, tail, &random::any_set(&mut chance, n, tail))
+    };
     Said {
         check: check(n, words),
         picks,
@@ -56,7 +58,7 @@ fn said(n: u64, words: &[u16], seed: u64) -> Said {
         host: (host, host_room),
         conflict: conflict(n, words),
         host_conflict: simmerknot_conflict(n, &table_bytes(words)),
-        groups,
+        groups: (0..3).map(group).collect(),
     }
 }
 
@@ -99,7 +101,7 @@ fn tables_that_differ_only_in_lines_have_equal_answers() {
     }
     assert!(pairs > 2000 && lines > 50_000 && values.iter().all(|&count| count > 5000), "{pairs} {lines} {values:?}");
     assert!(marked > 2000 && reported > 5000 && unsettled > 5000 && small > 200, "{marked} {reported} {unsettled} {small}");
-    assert!(conflicts.iter().all(|&count| count > 700) && groups.iter().all(|&count| count > 1000), "{conflicts:?} {groups:?}");
+    assert!(conflicts.iter().all(|&count| count > 700) && groups.iter().all(|&count| count > 250), "{conflicts:?} {groups:?}");
 }
 
 #[test]
