@@ -82,11 +82,9 @@ fn number(words: &[u16], set: &[bool], met: &mut Met) -> u64 {
     answer(512, words, &set_words(set), met).expect("an accepted table")
 }
 
-/// The words of one rule, of line 7.
+/// The words of one rule.
 fn one_rule(head: Literal, groups: &[Vec<Literal>]) -> Vec<u16> {
-    let mut words = encode(&numbered(&[Rule { head, groups: groups.to_vec() }]));
-    words[1] = 7;
-    words
+    encode(&numbered(&[Rule { head, groups: groups.to_vec() }]))
 }
 
 /// The set less one literal.

@@ -36,7 +36,7 @@ impl MarkRecord {
         Ok(())
     }
 
-    /// One entry for each atom.
+    /// Whether each atom is marked.
     pub fn marked(&self) -> Vec<bool> {
         (0..self.n as usize).map(|atom| self.has(atom)).collect()
     }
