@@ -1,6 +1,6 @@
-//! What to note of a table, refusals that have to do with a line above all; and a table of any length.
+//! What to note of a table, refusals that have to do with a line above all; a table of any length, and one that may have a faulty word.
 
-use second::random::{WordRole, word_roles};
+use second::random::{Chance, TABLE_DAMAGES, WordRole, damage_table, small_table, word_roles};
 use second::refusal::*;
 
 use crate::cases::Tally;
@@ -102,4 +102,14 @@ pub fn of_length(length: usize) -> Vec<u16> {
         head += 1;
     }
     words
+}
+
+/// A small table, every second time with a faulty word or cut.
+pub fn sound_or_faulty(chance: &mut Chance) -> (u64, Vec<u16>) {
+    let (mut n, mut words) = small_table(chance, 4);
+    let damage = chance.of(&TABLE_DAMAGES[2..]);
+    if chance.one_in(2) {
+        damage_table(chance, &mut n, &mut words, damage);
+    }
+    (n, words)
 }

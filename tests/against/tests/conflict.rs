@@ -4,7 +4,7 @@ use against::cases::{Tally, cases};
 use against::entries::{Answer, Engine, Entries, NO, Second, YES};
 use against::guard::Guarded;
 use against::shrink::{smaller, smaller_table};
-use against::tables::{self, expect_of_lines, of_length};
+use against::tables::{self, expect_of_lines, of_length, sound_or_faulty};
 use second::random::{self, Chance};
 use second::refusal::Refusal;
 use second::table::{Literal, Rule, encode, negation, numbered};
@@ -316,11 +316,7 @@ fn a_conflict_before_a_faulty_word_is_no_answer() {
     let mut tally = Tally::default();
     for _ in 0..cases(100_000) {
         // Every table begins with a conflict; what is behind it is accepted, damaged or cut.
-        let (mut n, mut words) = random::small_table(&mut chance, 4);
-        let damage = chance.of(&random::TABLE_DAMAGES[2..]);
-        if chance.one_in(2) {
-            random::damage_table(&mut chance, &mut n, &mut words, damage);
-        }
+        let (n, words) = sound_or_faulty(&mut chance);
         let pair = 2 * n as u16;
         let words = [&[pair, 1, 0, pair + 1, 2, 0][..], &words].concat();
         assert_eq!(answer(n + 1, &words, &mut tally), Engine.check(n + 1, &words).map(|_| YES));

@@ -4,7 +4,7 @@ use against::cases::{Tally, cases};
 use against::entries::{Answer, Engine, Entries, FACT, NO_GROUP, NO_RECORD, Second, which_group, which_group_nulls};
 use against::pages::Pages;
 use against::shrink::{fewer_bits, smaller, smaller_table, without_parts};
-use against::tables::{self, expect_of_lines, of_length};
+use against::tables::{self, expect_of_lines, of_length, sound_or_faulty};
 use second::model::{clean, held};
 use second::random::{self, Chance, Shape, head_places, literal_set, set_of, set_words};
 use second::refusal::Refusal;
@@ -465,11 +465,7 @@ fn a_group_before_a_faulty_word_is_no_answer() {
     let mut met = Met::new();
     for _ in 0..cases(60_000) {
         // Every table begins with a fact or with a rule whose group is in the set; what is behind it is accepted, damaged or cut.
-        let (mut n, mut words) = random::small_table(&mut chance, 4);
-        let damage = chance.of(&random::TABLE_DAMAGES[2..]);
-        if chance.one_in(2) {
-            random::damage_table(&mut chance, &mut n, &mut words, damage);
-        }
+        let (n, words) = sound_or_faulty(&mut chance);
         let own = 2 * n as u16;
         let first = chance.of(&[0, 1]);
         let words = [&[own, 1, first, 1, own + 1][..if first == 0 { 3 } else { 5 }], &words].concat();
