@@ -1,7 +1,7 @@
-//! The host's three entries: bytes in place of words and names, one 64-bit number as the answer.
+//! The host's entries: bytes in place of words and names, one 64-bit number as the answer.
 
 use crate::refusal::*;
-use crate::{model, sheet, table};
+use crate::{model, reasons, sheet, table};
 
 /// 2^32 times the number, plus the place.
 fn packed(refusal: Refusal) -> u64 {
@@ -38,6 +38,20 @@ pub fn simmerknot_evaluate(n: u64, table: &[u8], values: &mut [u8]) -> u64 {
 pub fn simmerknot_conflict(n: u64, table: &[u8]) -> u64 {
     match checked_words(table, |words| table::check(n, words)).and_then(|words| model::conflict(n, &words)) {
         Ok(yes) => u64::from(yes),
+        Err(refusal) => packed(refusal),
+    }
+}
+
+/// What the writer of a reason sheet refuses before 15, packed.
+pub fn refused_writing(n: u64, table: &[u8]) -> Option<u64> {
+    checked_words(table, |words| reasons::check_writing(n, words)).err().map(packed)
+}
+
+/// The check of a reason sheet: 0, or a packed refusal.
+pub fn simmerknot_check_reasons(n: u64, table: &[u8], values: &[u8], text: &[u8]) -> u64 {
+    let check = |words: &[u16]| model::evaluation_rules(n, words, values.len()).map(|_| ());
+    match checked_words(table, check).and_then(|words| reasons::check_reasons(n, &words, values, text)) {
+        Ok(()) => 0,
         Err(refusal) => packed(refusal),
     }
 }

@@ -27,6 +27,9 @@ pub const MARK_AT_N_OR_ABOVE: u32 = 17;
 pub const NOT_SETTLED: u32 = 18;
 pub const N_MARKS_NOT_SETTLED: u32 = 19;
 pub const TRUTH_CODE_ABOVE_3: u32 = 20;
+pub const TEXT_BROKEN: u32 = 21;
+pub const LINE_WRONG: u32 = 22;
+pub const VALUES_NOT_A_MODEL: u32 = 34;
 
 pub const MOST_ATOMS: u64 = 512;
 pub const MOST_WORDS: usize = 8192;
@@ -35,6 +38,7 @@ pub const MOST_GROUPS: usize = 64;
 pub const MOST_LITERALS: usize = 64;
 pub const MOST_SHEET_BYTES: usize = 65_536;
 pub const MOST_NAME_BYTES: usize = 24;
+pub const MOST_RANK: usize = 1023;
 
 /// A refusal as the answer of a function.
 pub fn refuse<T>(number: u32, place: usize) -> Result<T, Refusal> {

@@ -1,8 +1,9 @@
 //! The host's entries on bytes, against the plain entries.
 
-use second::host::{simmerknot_conflict, simmerknot_evaluate, simmerknot_sheet};
+use second::host::{refused_writing, simmerknot_check_reasons, simmerknot_conflict, simmerknot_evaluate, simmerknot_sheet};
 use second::model::{conflict, evaluate};
-use second::random::{self, Chance, entry_bytes, table_bytes};
+use second::random::{self, Chance, Claimed, entry_bytes, table_bytes};
+use second::reasons::{check_reasons, check_writing};
 use second::sheet::read_sheet;
 
 fn packed(number: u64, place: u64) -> u64 {
@@ -93,6 +94,52 @@ fn conflict_meets_a_lone_last_byte_after_the_whole_words() {
     bytes.push(0);
     assert_eq!(simmerknot_conflict(512, &bytes), packed(2, 0));
     assert_eq!(simmerknot_conflict(513, &bytes), packed(1, 0));
+}
+
+#[test]
+fn the_check_of_a_reason_sheet_is_0_or_a_packed_refusal() {
+    // Both literals of atom 300, lines 32,768 and 0, facts.
+    let table = [0x58, 0x02, 0x00, 0x80, 0, 0, 0x59, 0x02, 0, 0, 0, 0];
+    let mut values = [1; 301];
+    values[300] = 2;
+    let text = b"600\t0\t600\t0\n601\t7\t601\t0\n";
+    assert_eq!(simmerknot_check_reasons(301, &table, &values, text), 0);
+    assert_eq!(simmerknot_check_reasons(0, &[], &[], &[]), 0);
+    assert_eq!(simmerknot_check_reasons(513, &table, &values, text), packed(1, 0));
+    assert_eq!(simmerknot_check_reasons(u64::MAX, &[], &[], &[]), packed(1, 0));
+    assert_eq!(simmerknot_check_reasons(301, &[0; 16_386], &values, text), packed(2, 0));
+    assert_eq!(simmerknot_check_reasons(301, &table, &values[..300], text), packed(3, 0));
+    assert_eq!(simmerknot_check_reasons(300, &table, &values, text), packed(5, 0));
+    assert_eq!(simmerknot_check_reasons(301, &table[..6], &values, text), packed(22, 2));
+    assert_eq!(simmerknot_check_reasons(301, &table, &[1; 301], text), packed(34, 0));
+    assert_eq!(simmerknot_check_reasons(301, &table, &[9; 301], text), packed(20, 0));
+    assert_eq!(simmerknot_check_reasons(301, &table, &values, &text[..20]), packed(21, 20));
+    // A text too long for 16 bits, broken at its end.
+    let long = [&b"0\t0\t0\t0\n".repeat(9000)[..], b"0\t"].concat();
+    assert_eq!(simmerknot_check_reasons(301, &table, &values, &long), packed(21, 72_002));
+}
+
+#[test]
+fn the_check_of_a_reason_sheet_meets_a_lone_last_byte_after_the_whole_words() {
+    for lone in [0, 1, 255] {
+        let check = |n, table: &[u8], values: &[u8], text: &[u8]| simmerknot_check_reasons(n, table, values, text);
+        assert_eq!(check(1, &[lone], &[1], b""), packed(4, 0));
+        assert_eq!(check(1, &[0, 0, 9, 0, 0, 0, lone], &[3], b"0\t0\t0\t0\n"), packed(4, 3));
+        assert_eq!(check(1, &[0, 0, 9, 0, 65, 0, lone], &[3], b""), packed(6, 2));
+        assert_eq!(check(1, &[0, 0, 9, 0, 0, 0, 0, 0, lone], &[3], b""), packed(7, 3));
+        assert_eq!(check(513, &[lone], &[], b"x"), packed(1, 0));
+        assert_eq!(check(1, &[0, 0, 9, 0, 0, 0, lone], &[], b"x"), packed(3, 0));
+        // Before what is wrong with values and text.
+        assert_eq!(check(1, &[0, 0, 9, 0, 0, 0, lone], &[4], b"x"), packed(4, 3));
+        assert_eq!(check(1, &[0, 0, 9, 0, 0, 0, lone], &[3], b"x"), packed(4, 3));
+        assert_eq!(check(1, &[0, 0, 9, 0, 0, 0, lone], &[1], b""), packed(4, 3));
+        assert_eq!(check(1, &[0, 0, 9, 0, 0, 0, lone], &[3], b""), packed(4, 3));
+        assert_eq!(refused_writing(1, &[0, 0, 9, 0, 0, 0, lone]), Some(packed(4, 3)));
+        assert_eq!(refused_writing(1, &[0, 0, 9, 0, 65, 0, lone]), Some(packed(6, 2)));
+        assert_eq!(refused_writing(513, &[lone]), Some(packed(1, 0)));
+    }
+    assert_eq!(refused_writing(1, &[0, 0, 9, 0, 0, 0]), None);
+    assert_eq!(refused_writing(1, &[0; 16_386]), Some(packed(2, 0)));
 }
 
 #[test]
@@ -259,4 +306,35 @@ fn the_sheet_entry_on_bytes_equals_the_sheet_entry() {
         assert_eq!((words, names, text), (words_before, names_before, same_text), "seed {seed}");
     }
     assert!(accepted > 300 && refused > 500, "{accepted} {refused}");
+}
+
+#[test]
+fn the_check_of_a_reason_sheet_on_bytes_equals_the_one_on_words() {
+    let mut met = std::collections::BTreeMap::new();
+    for seed in 0..8000 {
+        let mut chance = Chance::new(seed);
+        let Claimed { n, words, values, text } = random::any_reasons(&mut chance);
+        let mut bytes = table_bytes(&words);
+        let odd = chance.one_in(5);
+        if odd {
+            bytes.push(chance.number() as u8);
+        }
+        let answer = simmerknot_check_reasons(n, &bytes, &values, &text);
+        let of_words = match check_reasons(n, &words, &values, &text) {
+            Err(refusal) if refusal.number < 20 => packed(refusal.number.into(), refusal.place),
+            _ if odd => packed(4, words.len() as u64),
+            Err(refusal) => packed(refusal.number.into(), refusal.place),
+            Ok(()) => 0,
+        };
+        assert_eq!(answer, of_words, "seed {seed}");
+        let writing = match check_writing(n, &words) {
+            Err(refusal) => Some(packed(refusal.number.into(), refusal.place)),
+            Ok(()) if odd => Some(packed(4, words.len() as u64)),
+            Ok(()) => None,
+        };
+        assert_eq!(refused_writing(n, &bytes), writing, "seed {seed}");
+        *met.entry(answer >> 32).or_insert(0) += 1;
+    }
+    assert_eq!(met.keys().copied().collect::<Vec<_>>(), [0, 1, 2, 3, 4, 5, 6, 7, 20, 21, 22, 34]);
+    assert!(met.values().all(|&count| count > 20), "{met:?}");
 }

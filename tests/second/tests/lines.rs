@@ -1,9 +1,12 @@
 //! No answer depends on a line: tables that differ only in line words, through every entry that is lent a table.
 
-use second::host::{simmerknot_conflict, simmerknot_evaluate};
+use std::collections::BTreeMap;
+
+use second::host::{refused_writing, simmerknot_check_reasons, simmerknot_conflict, simmerknot_evaluate};
 use second::marking::{MarkRecord, Picked, fresh, pick, report, settled};
 use second::model::{OfFirst, conflict, evaluate, which_group_of_first};
 use second::random::{self, ALL_LINES, Chance, Lines, table_bytes};
+use second::reasons::{check_reasons, check_writing};
 use second::refusal::Refusal;
 use second::sheet::{contents, line_of};
 use second::table::{check, encode, rules_of};
@@ -24,10 +27,12 @@ struct Said {
     conflict: Result<bool, Refusal>,
     host_conflict: u64,
     groups: Vec<Result<OfFirst, Refusal>>,
+    writing: (Result<(), Refusal>, Option<u64>),
+    reasons: Vec<(Result<(), Refusal>, u64)>,
 }
 
 /// Picks from a fresh record or from one by hand, with questions and reports between them; then both evaluations, the question of
-/// conflict in both ways, and which group of some records is wholly in a set.
+/// conflict in both ways, which group of some records is wholly in a set, and checks of reason sheets, some of them forged.
 fn said(n: u64, words: &[u16], seed: u64) -> Said {
     let mut chance = Chance::new(seed);
     let mut record = if chance.one_in(2) { fresh(n).0 } else { random::record(&mut chance, n) };
@@ -49,6 +54,8 @@ fn said(n: u64, words: &[u16], seed: u64) -> Said {
         let tail = &words[heads.get(chance.index(heads.len() + 1)).copied().unwrap_or(words.len())..];
         which_group_of_first(n, tail, &random::any_set(&mut chance, n, tail))
     };
+    let groups = (0..3).map(group).collect();
+    let reasons = (0..3).map(|_| reasons_said(&mut chance, n, words)).collect();
     Said {
         check: check(n, words),
         picks,
@@ -58,14 +65,23 @@ fn said(n: u64, words: &[u16], seed: u64) -> Said {
         host: (host, host_room),
         conflict: conflict(n, words),
         host_conflict: simmerknot_conflict(n, &table_bytes(words)),
-        groups: (0..3).map(group).collect(),
+        groups,
+        writing: (check_writing(n, words), refused_writing(n, &table_bytes(words))),
+        reasons,
     }
+}
+
+/// The check of a reason sheet of chance, on words and on bytes.
+fn reasons_said(chance: &mut Chance, n: u64, words: &[u16]) -> (Result<(), Refusal>, u64) {
+    let (values, text) = random::claimed(chance, n, words);
+    (check_reasons(n, words, &values, &text), simmerknot_check_reasons(n, &table_bytes(words), &values, &text))
 }
 
 #[test]
 fn tables_that_differ_only_in_lines_have_equal_answers() {
     let (mut pairs, mut lines, mut values) = (0, 0, [0; 4]);
     let (mut marked, mut reported, mut unsettled, mut small, mut conflicts, mut groups) = (0, 0, 0, 0, [0; 2], [0; 4]);
+    let mut reasons = BTreeMap::new();
     for seed in 0..3000 {
         let mut chance = Chance::new(seed);
         let (n, words) = random::accepted_table(&mut chance);
@@ -98,9 +114,15 @@ fn tables_that_differ_only_in_lines_have_equal_answers() {
                 OfFirst::NoRecord => {}
             }
         }
+        assert_eq!(one.writing, (Ok(()), None), "seed {seed}");
+        for (answer, _) in one.reasons {
+            *reasons.entry(answer.err().map_or(0, |refusal| refusal.number)).or_insert(0) += 1;
+        }
     }
     assert!(pairs > 2000 && lines > 50_000 && values.iter().all(|&count| count > 5000), "{pairs} {lines} {values:?}");
     assert!(marked > 2000 && reported > 5000 && unsettled > 5000 && small > 200, "{marked} {reported} {unsettled} {small}");
+    assert_eq!(reasons.keys().copied().collect::<Vec<u32>>(), [0, 3, 20, 21, 22, 34]);
+    assert!(reasons.values().all(|&count| count > 300), "{reasons:?}");
     assert!(conflicts.iter().all(|&count| count > 700) && groups.iter().all(|&count| count > 250), "{conflicts:?} {groups:?}");
 }
 

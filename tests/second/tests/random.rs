@@ -1,5 +1,6 @@
 //! The generators draw what they say.
 
+use second::judge;
 use second::model::{OfFirst, evaluate, which_group, which_group_of_first};
 use second::random::*;
 use second::table::{Rule, check, encode, parse, rules_of};
@@ -12,6 +13,7 @@ fn the_same_seed_gives_the_same_things() {
     assert_eq!(chance.number(), 0x6e78_9e6a_a1b9_65f4);
     assert_eq!(any_table(&mut Chance::new(5)), any_table(&mut Chance::new(5)));
     assert_eq!(any_sheet(&mut Chance::new(5)), any_sheet(&mut Chance::new(5)));
+    assert_eq!(any_reasons(&mut Chance::new(5)), any_reasons(&mut Chance::new(5)));
     assert_ne!(any_table(&mut Chance::new(5)), any_table(&mut Chance::new(6)));
 }
 
@@ -330,4 +332,50 @@ fn any_set_gives_every_answer() {
     }
     let met = [groups[0], groups[1], groups[2], groups[3], no_group, no_record, refused];
     assert!(met.iter().all(|&count| count > 30), "{met:?}");
+}
+
+#[test]
+fn values_are_claimed_of_every_kind() {
+    let (mut least, mut others, mut models, mut none, mut lent) = (0, 0, 0, 0, [0; 4]);
+    for seed in 0..4000 {
+        let mut chance = Chance::new(seed);
+        let (n, words) = small_table(&mut chance, 4);
+        let rules = rules_of(n, &words).unwrap();
+        let values = claimed_values(&mut chance, n, &words);
+        let set = (0..1u32 << (2 * n)).find(|&set| judge::values(n as usize, set) == values).expect("an interpretation");
+        match (judge::is_model(set, &rules), judge::is_well_supported(n as usize, set, &rules)) {
+            (_, true) if values == evaluated(n, &words) => least += 1,
+            (_, true) => others += 1,
+            (true, _) => models += 1,
+            _ => none += 1,
+        }
+        let row = lent_values(&mut chance, values);
+        let codes = row.iter().take(n as usize).any(|&value| value > 3);
+        lent[if (row.len() as u64) < n { 0 } else if codes { 1 } else if row.len() as u64 > n { 2 } else { 3 }] += 1;
+    }
+    assert!(least > 2000 && others > 40 && models > 200 && none > 200, "{least} {others} {models} {none}");
+    assert!(lent.iter().all(|&count| count > 200), "{lent:?}");
+}
+
+#[test]
+fn good_reason_sheets_have_ranks_rules_and_groups_of_every_kind() {
+    let (mut equal, mut apart, mut highest, mut own, mut of_negation, mut facts, mut later, mut ahead) = (0, 0, 0, 0, 0, 0, 0, 0);
+    for seed in 0..4000 {
+        let mut chance = Chance::new(seed);
+        let (n, words) = small_table(&mut chance, 5);
+        let lines = good_lines(&mut chance, &rules_of(n, &words).unwrap(), &evaluated(n, &words)).expect("a sheet");
+        let mut ranks: Vec<usize> = lines.iter().map(|line| line.rank).collect();
+        ranks.sort_unstable();
+        equal += ranks.windows(2).any(|pair| pair[0] == pair[1]) as u32;
+        apart += ranks.windows(2).any(|pair| pair[0] + 1 < pair[1]) as u32;
+        highest += (ranks.last() == Some(&1023)) as u32;
+        own += lines.iter().filter(|line| line.head == line.literal && line.group > 0).count();
+        of_negation += lines.iter().filter(|line| line.head != line.literal).count();
+        facts += lines.iter().filter(|line| line.group == 0).count();
+        later += lines.iter().filter(|line| line.group > 1).count();
+        // A rank above that of the head that it rests on.
+        ahead += lines.iter().filter(|line| lines.iter().any(|other| other.literal == line.head && other.rank < line.rank)).count();
+    }
+    assert!(equal > 400 && apart > 400 && highest > 400, "{equal} {apart} {highest}");
+    assert!(own > 1000 && of_negation > 500 && facts > 1000 && later > 200 && ahead > 10, "{own} {of_negation} {facts} {later} {ahead}");
 }
