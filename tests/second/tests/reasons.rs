@@ -609,13 +609,13 @@ fn random_tables_of_three_atoms_with_every_interpretation_and_total_order() {
     // Every strict partial order lies in a total one, and the conditions only ask that some come before others.
     let orders: Vec<_> = (0..=6).map(total_orders).collect();
     let mut met = [0; 3];
-    for seed in 0..1000 {
+    for seed in 0..400 {
         let mut chance = Chance::new(0x5eb0 + seed);
         let shape = random::small_shape(&mut chance);
         let rules = random::rules(&mut chance, 3, shape);
         definition_9_is_what_is_accepted(3, &rules, &orders, &mut met);
     }
-    assert!(met.iter().all(|&count| count > 1000), "{met:?}");
+    assert!(met.iter().all(|&count| count > 400), "{met:?}");
 }
 
 fn set_of(table: &Written, literals: &[&str]) -> Interpretation {
@@ -751,7 +751,7 @@ fn expected(Claimed { n, words, values, text }: &Claimed) -> Answer {
 fn anything_is_refused_or_accepted_as_the_definitions_say() {
     let mut met: BTreeMap<u32, u32> = BTreeMap::new();
     let mut large = BTreeMap::new();
-    for seed in 0..40_000 {
+    for seed in 0..20_000 {
         let claimed = random::any_reasons(&mut Chance::new(0x5ed0_0000 + seed));
         let Claimed { n, words, values, text } = &claimed;
         let answer = check_reasons(*n, words, values, text);
@@ -763,14 +763,14 @@ fn anything_is_refused_or_accepted_as_the_definitions_say() {
     }
     assert_eq!(met.keys().copied().collect::<Vec<_>>(), [0, 2, 3, 4, 5, 6, 7, 20, 21, 22, 34]);
     assert_eq!(large.keys().copied().collect::<Vec<_>>(), [0, 1, 2, 3, 4, 5, 6, 7, 20, 21, 22, 34]);
-    assert!(met.values().all(|&count| count > 50) && large.values().all(|&count| count > 50), "{met:?} {large:?}");
-    assert!([0, 3, 20, 21, 22, 34].iter().all(|number| met[number] > 1000), "{met:?}");
+    assert!(met.values().all(|&count| count > 20) && large.values().all(|&count| count > 20), "{met:?} {large:?}");
+    assert!([0, 3, 20, 21, 22, 34].iter().all(|number| met[number] > 500), "{met:?}");
 }
 
 #[test]
 fn every_forgery_is_refused_as_it_should_be() {
     let mut met = [[0; 3]; FORGERIES.len()];
-    for seed in 0..30_000 {
+    for seed in 0..15_000 {
         let mut chance = Chance::new(0x5ee0_0000 + seed);
         let (n, words) = random::small_table(&mut chance, 4);
         let (rules, values) = (rules_of(n, &words).unwrap(), evaluated(n, &words));
@@ -790,8 +790,8 @@ fn every_forgery_is_refused_as_it_should_be() {
     }
     for (forgery, met) in FORGERIES.iter().zip(met) {
         // What leaves some sheets good leaves enough of them so, and not all.
-        let enough = |number: u32| forgery.numbers().is_empty() || !forgery.numbers().contains(&number) || met[number as usize - 20] > 30;
+        let enough = |number: u32| forgery.numbers().is_empty() || !forgery.numbers().contains(&number) || met[number as usize - 20] > 10;
         assert!(enough(21) && enough(22), "{forgery:?}: {met:?}");
-        assert!(!forgery.numbers().is_empty() || met[0] > 10 && met[1] + met[2] > 100, "{forgery:?}: {met:?}");
+        assert!(!forgery.numbers().is_empty() || met[0] > 3 && met[1] + met[2] > 50, "{forgery:?}: {met:?}");
     }
 }
