@@ -3,6 +3,7 @@
 use second::judge;
 use second::model::{OfFirst, evaluate, which_group, which_group_of_first};
 use second::random::*;
+use second::reasons::Claim;
 use second::table::{Rule, check, encode, parse, rules_of};
 
 #[test]
@@ -378,4 +379,21 @@ fn good_reason_sheets_have_ranks_rules_and_groups_of_every_kind() {
     }
     assert!(equal > 400 && apart > 400 && highest > 400, "{equal} {apart} {highest}");
     assert!(own > 1000 && of_negation > 500 && facts > 1000 && later > 200 && ahead > 10, "{own} {of_negation} {facts} {later} {ahead}");
+}
+
+#[test]
+fn mixed_tables_have_t_and_i_groups_in_one_body() {
+    let mut mixed = [0; 2];
+    for seed in 0..1000 {
+        let (n, words) = mixed_table(&mut Chance::new(seed));
+        assert_eq!(check(n, &words), Ok(()), "seed {seed}");
+        let (rules, values) = (rules_of(n, &words).unwrap(), evaluated(n, &words));
+        let claim = Claim { rules: &rules, values: &values };
+        for rule in &rules {
+            let has = |value: u8| rule.groups.iter().any(|group| claim.group_value(group) == value);
+            // The head is t, or i by its negation's rule.
+            mixed[(claim.value(rule.head) == 2) as usize] += (has(2) && has(3)) as u32;
+        }
+    }
+    assert!(mixed.iter().all(|&count| count > 150), "{mixed:?}");
 }

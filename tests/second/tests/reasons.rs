@@ -772,7 +772,7 @@ fn every_forgery_is_refused_as_it_should_be() {
     let mut met = [[0; 3]; FORGERIES.len()];
     for seed in 0..15_000 {
         let mut chance = Chance::new(0x5ee0_0000 + seed);
-        let (n, words) = random::small_table(&mut chance, 4);
+        let (n, words) = if chance.one_in(2) { random::mixed_table(&mut chance) } else { random::small_table(&mut chance, 4) };
         let (rules, values) = (rules_of(n, &words).unwrap(), evaluated(n, &words));
         let lines = good_lines(&mut chance, &rules, &values).expect("a sheet");
         assert_eq!(check_reasons(n, &words, &values, &text_of(&lines)), Ok(()), "seed {seed}");

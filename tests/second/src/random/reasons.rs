@@ -4,10 +4,10 @@ use std::collections::BTreeMap;
 
 use crate::judge;
 use crate::model::evaluate;
-use crate::random::{Chance, any_table, large_table, small_table};
+use crate::random::{Chance, Shape, any_table, large_table, rules, small_table};
 use crate::reasons::{Claim, Line, text_of};
 use crate::refusal::MOST_RANK;
-use crate::table::{Literal, Rule, check, negation, rules_of};
+use crate::table::{Literal, Rule, check, encode, negation, numbered, rules_of};
 use crate::truth::{F, I, T, U};
 
 /// A literal once it is placed: the round, and the head and group that it rests on.
@@ -412,12 +412,34 @@ pub fn claimed_lines(chance: &mut Chance, n: u64, rules: &[Rule], values: &[u8])
     found.unwrap_or_else(|| nearly_good_lines(chance, rules, values))
 }
 
+/// A small table in which t and i groups stand side by side: both literals of atom 0 are facts, and one of atom 1.
+pub fn mixed_table(chance: &mut Chance) -> (u64, Vec<u16>) {
+    let n = chance.between(3, FEW);
+    let shape = Shape { headed: 70, facts: 5, groups: 3, literals: 2, negative: 50 };
+    let mut drawn = rules(chance, n, shape);
+    let known = [0, 1, chance.of(&[2, 3])];
+    for literal in drawn.iter_mut().flat_map(|rule| rule.groups.iter_mut().flatten()) {
+        if chance.percent(60) {
+            *literal = chance.of(&[known[0], known[1], known[2], known[2]]);
+        }
+    }
+    drawn.retain(|rule| !known.contains(&rule.head) && negation(rule.head) != known[2]);
+    drawn.extend(known.map(|head| Rule { head, groups: Vec::new() }));
+    chance.shuffle(&mut drawn);
+    (n, encode(&numbered(&drawn)))
+}
+
 /// Values and a text to lend with an accepted table: a good sheet about one time in three, else with a fault in values or text, or
 /// several.
 pub fn claimed(chance: &mut Chance, n: u64, words: &[u16]) -> (Vec<u8>, Vec<u8>) {
     let rules = rules_of(n, words).expect("an accepted table");
     let values = claimed_values(chance, n, words);
-    let lines = claimed_lines(chance, n, &rules, &values);
+    let mut lines = claimed_lines(chance, n, &rules, &values);
+    if chance.one_in(6) && !lines.is_empty() {
+        // Another rule or group that is at hand.
+        let at = chance.index(lines.len());
+        (lines[at].head, lines[at].group) = any_reason(chance, Claim { rules: &rules, values: &values }, lines[at].literal);
+    }
     let text = claimed_text(chance, n, &lines);
     (lent_values(chance, values), text)
 }
@@ -440,6 +462,7 @@ pub fn any_reasons(chance: &mut Chance) -> Claimed {
         0..=3 => any_table(chance),
         4 => large_table(chance),
         5..=8 => small_table(chance, 40),
+        9..=15 => mixed_table(chance),
         _ => small_table(chance, 4),
     };
     let (values, text) = if check(n, &words).is_ok() {
