@@ -1,4 +1,5 @@
-//! Seeded generators: tables, records, sets, sheets, reason sheets, places and buffers, accepted ones and ones damaged in each numbered way.
+//! Seeded generators: tables, records, sets, sheets, reason sheets, places and buffers, accepted ones and ones damaged in each numbered
+//! way.
 //!
 //! Everything is drawn from a `Chance`; the same seed gives the same things on every machine, so a failing test only has to
 //! print its seed. A generator named `any_..` mixes accepted and damaged things in numbers that let both be met.

@@ -1,4 +1,8 @@
 //! Reason sheets: good ones by a search of their own, forged ones, and values to claim.
+//!
+//! The search. A literal is placed once a group that is a reason for it is wholly placed, and the rounds of placing are the ranks; placing
+//! never hinders placing. An i group of a body that is i also serves the negation of its head, which may then be placed at any time, even
+//! ahead of the head: that is tried atom by atom, as only one literal of an atom can go ahead.
 
 use std::collections::BTreeMap;
 
@@ -95,11 +99,11 @@ impl<'a> Placing<'a> {
         self.claim.literals().into_iter().all(done)
     }
 
-    /// Places all literals, those of atoms from `atom` on ahead of their time where that is needed; false if it cannot be done.
+    /// Places all literals, those of few atoms from `atom` on ahead of their time where that is needed; false if it cannot be done.
     fn search(&mut self, chance: &mut Chance, atom: usize) -> bool {
         self.grow(chance);
-        if self.is_done() {
-            return true;
+        if self.is_done() || self.claim.values.len() as u64 > FEW {
+            return self.is_done();
         }
         let may_wait = |&head: &Literal| {
             self.claim.value(head) == I && self.has_body_i(head) && !self.has(head) && !self.has(negation(head))
@@ -165,8 +169,8 @@ fn ranks_of(chance: &mut Chance, rounds: &[usize]) -> Vec<usize> {
     keys.iter().map(|key| ranks[sorted.binary_search(key).expect("a key of the row")]).collect()
 }
 
-/// A good sheet for values that are well-supported, `None` for others. The ranks, and the rule and group of each literal, are drawn.
-/// For values other than whole evaluation's, N should be small.
+/// A good sheet for values that are well-supported, `None` for a model that is not. The ranks, and the rule and group of each literal, are
+/// drawn. For more than four atoms nothing is placed ahead of its time, which is enough for whole evaluation's values.
 pub fn good_lines(chance: &mut Chance, rules: &[Rule], values: &[u8]) -> Option<Vec<Line>> {
     let mut placing = Placing::new(Claim { rules, values });
     placing.search(chance, 0).then(|| placing.lines(chance))
