@@ -7,13 +7,13 @@ use mathlib.Core.Path.{_≡_, refl, sym, _∙_, subst, subst⁻¹}
 use Prim.Native.Nat.{ℕ, _+_, _≤_, _<_, _/_}
 use lib.Dec.{T, leb}
 use lib.ListN.{length, getD, take, drop}
-use Rattle.limits.specs.Limits.{mostAtoms, mostLine}
+use Rattle.limits.specs.Limits.{mostAtoms, mostLine, mostReasonBytes}
 use Rattle.refusal.specs.declared.Refusal.{Refusal}
 use Rattle.refusal.specs.Numbers.{too-many-atoms, not-settled, text-room-too-small, not-a-truth-code}
 use Rattle.paper.specs.Table1.{Value, 𝐢, 𝐭, code, _and_, _or_, not′, _implies_}
 use Rattle.paper.specs.Rules.{Rule, positive}
 use Rattle.sets.specs.Sets.{_∈_, _⊆_, count}
-use Rattle.paper.specs.Definitions.{Interpretation, value, bodyValue, Carries, Supports, Smallest, SmallestWellSupported}
+use Rattle.paper.specs.Definitions.{Interpretation, value, bodyValue, Carries, Supports, WellSupportedBy, WellSupported, Smallest, SmallestWellSupported}
 use Rattle.paper.specs.Marking.{Marks, Marked, Unmarked, Held, Clean, CanBeMarked, Settled, IsHeld, Conflict, settledValue, inconsistent}
 use Rattle.paper.proofs.Theorems as paper
 use Rattle.paper.proofs.Theorems.{smallest-by-test, smallest-exists}
@@ -54,6 +54,22 @@ use Rattle.evaluation.specs.Evaluation.{evaluationFault, EvaluationAllows}
 use Rattle.evaluation.proofs.Evaluated as evaluated
 use Rattle.evaluation.proofs.Laws.{evaluation-determined}
 use Rattle.evaluation.proofs.OnlyLines.{evaluation-alike}
+use Rattle.values.specs.Given.{given}
+use Rattle.valued.specs.Valued.{Codes}
+use Rattle.reasontext.specs.ReasonSheet.{ReasonLine, IsReasonText}
+use Rattle.reasoncheck.specs.ReasonCheck.{SmallerRank, CheckAllows}
+use Rattle.reasoncheck.proofs.Determined.{check-determined as reason-check-determined}
+use Rattle.reasoncheck.proofs.Checks.{sound-check}
+use Rattle.reasoncheck.proofs.WellSupported.{accepted→well-supported, well-supported→accepted}
+use Rattle.reasoncheck.proofs.OnlyLines.{check-alike}
+use Rattle.reasons.specs.Reasons.{ReasonsAllows}
+use Rattle.reasons.proofs.Accepted.{own-sheet-accepted, own-sheet-short}
+use Rattle.reasons.proofs.Determined.{reasons-determined, reasons-alike, learnt-length-serves}
+use Rattle.hostreasons.specs.CheckBytes.{HostCheck}
+use Rattle.hostreasons.specs.ReasonBytes.{HostReasons}
+use Rattle.hostreasons.proofs.Determined.{ReadsAs, host-check-determined, check-answer-tells}
+use Rattle.hostreasons.proofs.WrittenOnce.{host-reasons-determined}
+use Rattle.hostreasons.proofs.OnlyLines.{host-check-alike, host-reasons-alike}
 use Rattle.demands.proofs.Report.{evaluation-equals-report}
 use Rattle.demands.proofs.Conflict.{evaluation-codes-tell, host-codes-tell, answers-tell}
 use Rattle.reader.specs.declared.Reading.{Reading}
@@ -115,16 +131,16 @@ not-value a e = e ∙ not-is-table-1 a
 pub implication-value : (a b : Value) {r : Numbered} → r ≡ implied (code a) (code b) → r ≡ Number (code (a implies b))
 implication-value a b e = e ∙ implication-is-table-1 a b
 
-pub and-refused : (v w : ℕ) {r : Numbered} → (3 < v) ⊎ (3 < w) → r ≡ conjunction v w → r ≡ NoCode not-a-truth-code
+pub and-refused : (v w : ℕ) {r : Numbered} → (3 < v) ⊎ (3 < w) → r ≡ conjunction v w → r ≡ NoCode (not-a-truth-code 0)
 and-refused v w h e = e ∙ sym (⊎-elim (first-refused _and_ v w) (second-refused _and_ v w) h)
 
-pub or-refused : (v w : ℕ) {r : Numbered} → (3 < v) ⊎ (3 < w) → r ≡ disjunction v w → r ≡ NoCode not-a-truth-code
+pub or-refused : (v w : ℕ) {r : Numbered} → (3 < v) ⊎ (3 < w) → r ≡ disjunction v w → r ≡ NoCode (not-a-truth-code 0)
 or-refused v w h e = e ∙ sym (⊎-elim (first-refused _or_ v w) (second-refused _or_ v w) h)
 
-pub not-refused : (v : ℕ) {r : Numbered} → 3 < v → r ≡ negated v → r ≡ NoCode not-a-truth-code
+pub not-refused : (v : ℕ) {r : Numbered} → 3 < v → r ≡ negated v → r ≡ NoCode (not-a-truth-code 0)
 not-refused v h e = e ∙ sym (truth.not-refused v h)
 
-pub implication-refused : (v w : ℕ) {r : Numbered} → (3 < v) ⊎ (3 < w) → r ≡ implied v w → r ≡ NoCode not-a-truth-code
+pub implication-refused : (v w : ℕ) {r : Numbered} → (3 < v) ⊎ (3 < w) → r ≡ implied v w → r ≡ NoCode (not-a-truth-code 0)
 implication-refused v w h e = e ∙ sym (⊎-elim (first-refused _implies_ v w) (second-refused _implies_ v w) h)
 
 -- the word table check
@@ -189,7 +205,8 @@ module _ (r : MarkRecord) (t : List ℕ) where
   report-refused room e o = picks.report-determined r t room o (ReportAllows.refused e)
 
   pub report-before-settled : (room : List ℕ) {answer : Checked} {room′ : List ℕ} → reportFault r t (length room) ≡ Accepted
-      → (Settled (rulesOf t) (marksOf r) → ⊥) → ReportAllows r t room answer room′ → (answer ≡ Checked.Refused not-settled) × (room′ ≡ room)
+      → (Settled (rulesOf t) (marksOf r) → ⊥) → ReportAllows r t room answer room′ → (answer ≡ Checked.Refused not-settled) ×
+      (room′ ≡ room)
   report-before-settled room e n o = picks.report-determined r t room o (ReportAllows.before-settled e n)
 
   pub report-of-any-marks : (room : List ℕ) {answer : Checked} {room′ : List ℕ}
@@ -232,7 +249,8 @@ pub evaluation-allows-one : (N : ℕ) (t room : List ℕ) {x y : Checked} {room�
     → (x ≡ y) × (room′ ≡ room″)
 evaluation-allows-one N t room o o′ = evaluation-determined N t room o o′
 
-pub evaluation-refused : (N : ℕ) (t room : List ℕ) {f : Refusal} {answer : Checked} {room′ : List ℕ} → evaluationFault N t (length room) ≡ Refused f
+pub evaluation-refused : (N : ℕ) (t room : List ℕ) {f : Refusal} {answer : Checked} {room′ : List ℕ} → evaluationFault N t
+    (length room) ≡ Refused f
     → EvaluationAllows N t room answer room′ → (answer ≡ Checked.Refused f) × (room′ ≡ room)
 evaluation-refused N t room e o = evaluation-determined N t room o (EvaluationAllows.refused e)
 
@@ -385,7 +403,8 @@ module _ (s words names text : List ℕ) (x : Sofar) (read : sheetOutcome s (len
       × (ns ≡ namesOver (padded (length names / 4) (x .names)) names) × (text′ ≡ sheetOf s x I ++ drop (length (sheetOf s x I)) text)
   host-sheet-values h o =
       let one = sheet-one-rule s (length words / 2) (length names / 4) x read in
-      host-sheet-determined s words names text o (HostSheet.answered (SheetAllows.accepted read (smallest-by-test (rulesIn (x .records)) one I .1 smallest) h))
+      host-sheet-determined s words names text o (HostSheet.answered (SheetAllows.accepted read
+      (smallest-by-test (rulesIn (x .records)) one I .1 smallest) h))
 
   pub host-sheet-does-not-fit : {answer : ℕ} {ws ns text′ : List ℕ}
       → length text < length (sheetOf s x I) → HostSheet s words names text answer ws ns text′
@@ -646,3 +665,86 @@ module _ (S : ℕ → Bool) (ρ : Rule) {which : WhichGroup} (o : WhichAllows S 
       pub which-held-group-carries-𝐢 : ((ι : ℕ) → T (S ι) → Held R A ι) → bodyValue I (ρ .groups) ≡ 𝐢
           → (σ : Rule) × OnlyGroup ρ g σ × Carries I before σ 𝐢 × Carries I before ρ 𝐢
       which-held-group-carries-𝐢 held = which-group-carries-𝐢 (λ ι m. is-held ι .1 (held ι m))
+
+-- ---- Document 02, W5. The reason sheet, and a checker that anybody can run.
+
+-- the writer: 1, 2, words, 15; the checker: 1, 2, 3, words, 20, 21, 34, 22, else accepted. Each has one outcome for what it is lent
+pub reasons-allows-one : (N : ℕ) (t room : List ℕ) {x y : Numbered} {room′ room″ : List ℕ}
+    → ReasonsAllows N t room x room′ → ReasonsAllows N t room y room″ → (x ≡ y) × (room′ ≡ room″)
+reasons-allows-one N t room = reasons-determined N t room
+
+pub reason-check-allows-one : (N : ℕ) (t values text : List ℕ) {x y : Checked} → CheckAllows N t values text x → CheckAllows N t values text y
+    → x ≡ y
+reason-check-allows-one N t values text = reason-check-determined N t values text
+
+-- and so the host's, over bytes, then 4 for a lone last byte
+pub host-reasons-allows-one : (N : ℕ) (bytes room : List ℕ) {x y : ℕ} {room′ room″ : List ℕ}
+    → HostReasons N bytes room x room′ → HostReasons N bytes room y room″ → (x ≡ y) × (room′ ≡ room″)
+host-reasons-allows-one N bytes room = host-reasons-determined N bytes room
+
+pub host-check-allows-one : (N : ℕ) (bytes values text : List ℕ) {x y : ℕ} → HostCheck N bytes values text x → HostCheck N bytes values text y
+    → x ≡ y
+host-check-allows-one N bytes values text = host-check-determined N bytes values text
+
+-- so an answer tells its cause: 0 that the checker accepts, else the fault that the order finds
+pub host-check-tells : (N : ℕ) (bytes values text : List ℕ) {answer : ℕ} → HostCheck N bytes values text answer
+    → ((hostFault N (wordsIn bytes) (loneByte bytes) (length values) ≡ Accepted) × CheckAllows N (wordsIn bytes) values text Checked.Accepted ×
+    (answer ≡ 0))
+    ⊎ ((f : Refusal) × ReadsAs answer f × ((hostFault N (wordsIn bytes) (loneByte bytes) (length values) ≡ Refused f)
+    ⊎ ((hostFault N (wordsIn bytes) (loneByte bytes) (length values) ≡ Accepted) × CheckAllows N (wordsIn bytes) values text (Checked.Refused f))))
+host-check-tells N bytes values text = check-answer-tells N bytes values text
+
+-- a room of the length that the writer asks for by 15 serves it
+pub asked-length-serves : (N : ℕ) (t none room : List ℕ) {y : Numbered} {k : ℕ} {none′ room′ : List ℕ} → AcceptedTable N t
+    → ReasonsAllows N t none (NoCode (text-room-too-small k)) none′ → k ≤ length room → ReasonsAllows N t room y room′ → y ≡ Number k
+asked-length-serves N t none room accepted o le o′ = learnt-length-serves N t none room o refl le o′ accepted
+
+-- (a) the writer's sheet with evaluation's values is always accepted
+pub own-sheet-is-accepted : (N : ℕ) (t room values-room : List ℕ) {k : ℕ} {room′ values : List ℕ} {answer : Checked}
+    → ReasonsAllows N t room (Number k) room′ → EvaluationAllows N t values-room Checked.Accepted values
+    → CheckAllows N t values (take k room′) answer → answer ≡ Checked.Accepted
+own-sheet-is-accepted N t room values-room {k} {room′} {values} o e c =
+    reason-check-determined N t values (take k room′) c (own-sheet-accepted N t room values-room o refl e)
+
+-- (b) for every N, accepted table and value codes: what they give is well-supported, with an order of any kind, exactly if some text is accepted
+module _ (N : ℕ) (t values : List ℕ) (accepted : AcceptedTable N t) (codes : Codes N values) where
+  pub well-supported-has-a-sheet : WellSupported (rulesOf t) (given N values) → (text : List ℕ) × CheckAllows N t values text Checked.Accepted
+  well-supported-has-a-sheet w = let q = well-supported→accepted N t values (sound-check N t values accepted codes) w in (q .0, q .2)
+
+  pub a-sheet-makes-well-supported : ((text : List ℕ) × CheckAllows N t values text Checked.Accepted) → WellSupported (rulesOf t) (given N values)
+  a-sheet-makes-well-supported q =
+      let s = accepted→well-supported N t values (q .0) (q .1) in (SmallerRank (s .0), s .2)
+
+  -- (d) and then one of at most 18,432 bytes is
+  pub a-short-sheet-is-enough : (text : List ℕ) → CheckAllows N t values text Checked.Accepted
+      → (short : List ℕ) × (length short ≤ mostReasonBytes) × CheckAllows N t values short Checked.Accepted
+  a-short-sheet-is-enough text o =
+      well-supported→accepted N t values (sound-check N t values accepted codes) (a-sheet-makes-well-supported (text, o))
+
+-- the writer's own sheet has no more
+pub own-sheet-is-short : (N : ℕ) (t room : List ℕ) {k : ℕ} {room′ : List ℕ} → ReasonsAllows N t room (Number k) room′ → k ≤ mostReasonBytes
+own-sheet-is-short N t room o = own-sheet-short N t room o refl
+
+-- (c) an accepted text's ranks are such an order
+pub accepted-ranks-are-an-order : (N : ℕ) (t values text : List ℕ) → CheckAllows N t values text Checked.Accepted
+    → (ls : List ReasonLine) × IsReasonText text ls × WellSupportedBy (rulesOf t) (given N values) (SmallerRank ls)
+accepted-ranks-are-an-order = accepted→well-supported
+
+-- (f) lines of records never matter to either
+module _ (N : ℕ) (t u : List ℕ) (accepted : AcceptedTable N t) (accepted′ : AcceptedTable N u) (only : OnlyLinesDiffer t u) where
+  pub reasons-without-lines : (M : ℕ) (room : List ℕ) {x y : Numbered} {room′ room″ : List ℕ}
+      → ReasonsAllows M t room x room′ → ReasonsAllows M u room y room″ → (x ≡ y) × (room′ ≡ room″)
+  reasons-without-lines M room = reasons-alike M t u room (only-lines-alike N t u accepted accepted′ only)
+
+  pub reason-check-without-lines : (M : ℕ) (values text : List ℕ) {x y : Checked} → CheckAllows M t values text x → CheckAllows M u values text y
+      → x ≡ y
+  reason-check-without-lines M values text = check-alike M t u values text (only-lines-alike N t u accepted accepted′ only)
+
+module _ (N : ℕ) (b c : List ℕ) (accepted : AcceptedTable N (wordsIn b)) (accepted′ : AcceptedTable N (wordsIn c))
+    (only : OnlyLinesDiffer (wordsIn b) (wordsIn c)) (lone : loneByte b ≡ loneByte c) where
+  pub host-reasons-without-lines : (M : ℕ) (room : List ℕ) {x y : ℕ} {room′ room″ : List ℕ}
+      → HostReasons M b room x room′ → HostReasons M c room y room″ → (x ≡ y) × (room′ ≡ room″)
+  host-reasons-without-lines M = host-reasons-alike M b c (only-lines-alike N (wordsIn b) (wordsIn c) accepted accepted′ only) lone
+
+  pub host-check-without-lines : (M : ℕ) (values text : List ℕ) {x y : ℕ} → HostCheck M b values text x → HostCheck M c values text y → x ≡ y
+  host-check-without-lines M = host-check-alike M b c (only-lines-alike N (wordsIn b) (wordsIn c) accepted accepted′ only) lone

@@ -5,14 +5,14 @@ use mathlib.Core.Path.{_≡_, refl, ap, _∙_, subst⁻¹, fun-ext}
 use Prim.Native.Nat.{ℕ, _≤_}
 use lib.Dec.{leb}
 use lib.ListN.{length, replicate}
-use borrow.Author.Tests.{leb-true}
+use borrow.Author.Tests.{leb-true, le-leb}
 use Rattle.refusal.specs.Numbers.{too-many-atoms, value-room-too-small}
 use Rattle.refusal.specs.declared.Checked.the-variants.{Accepted}
 use Rattle.refusal.specs.Checks.{orElse}
 use Rattle.words.specs.Check.{tableCheck, AcceptedTable, tableTooLong, tooManyAtoms}
 use Rattle.words.specs.Layout.{rulesOf}
 use Rattle.refusal.proofs.Laws.{asking-accepted, orElse-accepted}
-use Rattle.words.proofs.Laws.{accepted-one-rule}
+use Rattle.words.proofs.Laws.{accepted-one-rule, accepted-atoms, accepted-length}
 use Rattle.paper.specs.Rules.{Rule, HeadsBelow, positive}
 use Rattle.paper.specs.Definitions.{value}
 use Rattle.paper.specs.Marking.{IsClean, Marking, none, settledValue}
@@ -73,3 +73,9 @@ settled-evaluates N t room m h room′ e s w =
     fun-ext (settledValue-is (rulesOf t) (member m) (member h) (q .0) (q .1)) in
     subst⁻¹ (EvaluationAllows N t room Checked.Accepted) (w ∙ ap (λ f. written f N room) v)
     (EvaluationAllows.evaluated e (member h) (settled-smallest (rulesOf t) (accepted-one-rule N t (a .1)) (s .begun .marking) (q .1) (member h) (q .0)))
+
+-- and an accepted table with room for N values has no fault
+pub accepted-evaluation : (N : ℕ) (t : List ℕ) (room : ℕ) → AcceptedTable N t → N ≤ room → evaluationFault N t room ≡ Accepted
+unfolding evaluationFault
+accepted-evaluation N t room a le =
+    rw (le-leb N 512 (accepted-atoms N t a), le-leb (length t) 8192 (accepted-length N t a), le-leb N room le) a

@@ -58,7 +58,7 @@ pub struct Marking {
 }
 
 // Rounds until one marks nothing; in the first there are no marks, and the held literals are the clean ones.
-fn settle(table: &[u16], n: usize) -> Marking
+pub fn settle(table: &[u16], n: usize) -> Marking
     requires { ⌜ (n ≤ mostAtoms) × Records (now table) 0 × HeadsBelow n (rulesOf (now table)) ⌝ }
     ensures { λ r. ⌜ Settling (rulesOf (now (table .entry))) (r .marks) (r .held) Bool.false ⌝ }
 {

@@ -18,7 +18,7 @@ use Rattle.host.proofs.Determined.{host-determined}
 use Rattle.host.proofs.Conflict.{host-conflict-determined}
 
 module _ (N : ℕ) (b c : List ℕ) (alike : Alike (wordsIn b) (wordsIn c)) (lone : loneByte b ≡ loneByte c) where
-  same-host : (room : ℕ) → hostFault N (wordsIn c) (loneByte c) room ≡ hostFault N (wordsIn b) (loneByte b) room
+  pub same-host : (room : ℕ) → hostFault N (wordsIn c) (loneByte c) room ≡ hostFault N (wordsIn b) (loneByte b) room
   unfolding hostFault
   same-host room =
       ap₂ (λ (x : Checked) (n : ℕ). thenLoneByte x n (loneByte c)) (same-evaluation N (wordsIn b) (wordsIn c) alike room) (sym (alike .lengths))
@@ -34,7 +34,7 @@ module _ (N : ℕ) (b c : List ℕ) (alike : Alike (wordsIn b) (wordsIn c)) (lon
       → HostEvaluation N b room x room′ → HostEvaluation N c room y room″ → (x ≡ y) × (room′ ≡ room″)
   host-alike room o o′ = host-determined N c room (host-of room o) o′
 
-  same-table : hostTableFault N (wordsIn c) (loneByte c) ≡ hostTableFault N (wordsIn b) (loneByte b)
+  pub same-table : hostTableFault N (wordsIn c) (loneByte c) ≡ hostTableFault N (wordsIn b) (loneByte b)
   unfolding hostTableFault
   same-table =
       ap₂ (λ (x : Checked) (n : ℕ). thenLoneByte x n (loneByte c)) (sym (alike .checks N)) (sym (alike .lengths))

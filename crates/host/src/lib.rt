@@ -29,7 +29,7 @@ fn wide(b: u8) -> u16
 }
 
 // The whole words of the bytes; the rest of the buffer is untouched.
-fn fill_words(bytes: &[u8], words: &mut [u16])
+pub fn fill_words(bytes: &[u8], words: &mut [u16])
     requires { ⌜ length (now bytes) / 2 ≤ length (now words) ⌝ }
     ensures { λ _. ⌜ now (words .exit) ≡ (wordsIn (now (bytes .entry)) ++ drop (length (now (bytes .entry)) / 2) (now (words .entry))) ⌝ }
 {
@@ -52,7 +52,7 @@ pub fn pack(r: Refusal) -> u64
 }
 
 // What a lone byte after so many words is answered: their own fault comes first.
-fn cut_short(fault: Checked, words: usize) -> Refusal
+pub fn cut_short(fault: Checked, words: usize) -> Refusal
     requires { ⌜ (words ≤ mostWords) × CheckPackable fault ⌝ }
     ensures { λ r. ⌜ (thenLoneByte fault words Bool.true ≡ Checked.Refused r) × Packable r ⌝ }
 {
@@ -73,7 +73,7 @@ fn evaluate_words(n: u64, words: &[u16], values: &mut [u8]) -> u64
 }
 
 // Too many words: 1 before 2.
-fn too_long(n: u64) -> u64
+pub fn too_long(n: u64) -> u64
     ensures { λ a. ⌜ a ≡ tooLongAnswer n ⌝ }
 {
     if limits::MOST_N < n {

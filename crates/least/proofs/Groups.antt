@@ -7,6 +7,7 @@ use Prim.Native.Nat.{ℕ, suc, _+_, _≤_, _<_}
 use native.Mathlib.Omega.{arith, by-contra}
 use native.Mathlib.Nat.{le-antisymm}
 use lib.Dec.{T}
+use lib.ListN.{length}
 use Rattle.sets.specs.Sets.{_∈_, _⊆_}
 use Rattle.sets.proofs.Tests.{T→true, true→T, refuted→false}
 use Rattle.paper.specs.Table1.{Value, 𝐢, 𝐭, code}
@@ -20,7 +21,7 @@ use Rattle.least.specs.declared.WhichGroup.the-variants.{Number, None}
 use Rattle.least.specs.Groups.{GroupNumber, first-group, later-group, Wholly, WhichAllows, is-a-fact, lowest-is, is-none, OnlyGroup, the-fact, the-group}
 use Rattle.least.specs.Walk.{whichFrom}
 
--- numbers count from 1, and each is that of a group of the body
+-- numbers count from 1 to how many groups there are, and each is that of a group of the body; each group has one
 pub from-1 : {βs : List (List ℕ)} {g : ℕ} {β : List ℕ} → GroupNumber βs g β → 1 ≤ g
 from-1 first-group = omega arith
 from-1 (later-group n) = omega arith
@@ -28,6 +29,16 @@ from-1 (later-group n) = omega arith
 pub numbered-in : {βs : List (List ℕ)} {g : ℕ} {β : List ℕ} → GroupNumber βs g β → β ∈ βs
 numbered-in first-group = List·Memᴰ·head refl
 numbered-in (later-group n) = List·Memᴰ·tail (numbered-in n)
+
+pub in-numbered : {βs : List (List ℕ)} {β : List ℕ} → β ∈ βs → (g : ℕ) × GroupNumber βs g β
+in-numbered {βs = []} m = absurd (List·Memᴰ·not-nil m)
+in-numbered {βs = γ ∷ βs} {β = β} m =
+    ⊎-elim (λ (e : β ≡ γ). (1, subst⁻¹ (GroupNumber (γ ∷ βs) 1) e first-group))
+    (λ (k : β ∈ βs). let n = in-numbered k in (suc (n .0), later-group (n .1))) (List·Memᴰ·cases-cons m)
+
+pub number≤length : {βs : List (List ℕ)} {g : ℕ} {β : List ℕ} → GroupNumber βs g β → g ≤ length βs
+number≤length first-group = omega arith
+number≤length (later-group n) = let k = number≤length n in omega arith
 
 module _ (S : ℕ → Bool) where
   -- what the walk finds, where g groups stand before those that it goes through

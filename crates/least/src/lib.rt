@@ -41,7 +41,7 @@ fn group_in(table: &[u16], set: &[u64], at: usize, k: usize) -> bool
 }
 
 // Where the `m` groups from `first` on end.
-fn skip_groups(table: &[u16], first: usize, m: usize) -> usize
+pub fn skip_groups(table: &[u16], first: usize, m: usize) -> usize
     requires { ⌜ (first ≤ length (now table)) × WholeGroups m (drop first (now table)) ⌝ }
     ensures { λ r. ⌜ GroupsSkipped (now (table .entry)) first m r ⌝ }
 {
@@ -111,7 +111,7 @@ pub fn which_group(table: &[u16], set: &[u64], at: usize) -> Body
 }
 
 // Where the record after the one at `at` begins.
-fn skip_record(table: &[u16], at: usize) -> usize
+pub fn skip_record(table: &[u16], at: usize) -> usize
     requires { ⌜ (bodyAt at ≤ length (now table)) × WholeGroups (groupsIn (now table) at) (bodyFrom (now table) at) ⌝ }
     ensures { λ r. ⌜ GroupsSkipped (now (table .entry)) (bodyAt at) (groupsIn (now (table .entry)) at) r ⌝ }
 {

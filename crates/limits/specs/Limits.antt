@@ -26,3 +26,15 @@ mostNameBytes = 24
 
 abbrev pub mostSheetBytes : ℕ
 mostSheetBytes = 65536
+
+-- the largest number of four digits
+abbrev pub mostFourDigits : ℕ
+mostFourDigits = 9999
+
+-- ranks of a reason sheet are 0 to 1,023
+abbrev pub mostRank : ℕ
+mostRank = 1023
+
+-- no reason sheet needs more: 1,024 lines of 4, 4, 4 and 2 digits and four bytes
+abbrev pub mostReasonBytes : ℕ
+mostReasonBytes = 18432

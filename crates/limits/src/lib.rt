@@ -13,3 +13,5 @@ pub const MOST_LINE: usize = 32768;
 pub const MOST_NAME_BYTES: usize = 24;
 
 pub const MOST_SHEET_BYTES: usize = 65536;
+
+pub const MOST_RANK: usize = 1023;

@@ -1,17 +1,17 @@
 -- The models of P2, P6 and P10 beside the smallest, straight from the definitions. Assumes nothing.
-use mathlib.Core.Bool.{not}
 use mathlib.Core.List.{List, [], _∷_, List·Memᴰ·head, List·Memᴰ·tail, List·Memᴰ·cases-cons, List·Memᴰ·not-nil}
 use mathlib.Core.Logic.{_⊎_, inl, inr, ⊎-elim}
 use mathlib.Core.Path.{_≡_, refl, subst⁻¹, sym, ap, _∙_}
-use Prim.Native.Nat.{ℕ, zero, suc, _<_}
+use Prim.Native.Nat.{ℕ, zero, suc}
 use native.Mathlib.Omega.{arith}
-use lib.Dec.{T, T-not, eqb, eqb→eq, eqb-refl, ltb, ltb→lt, lt→ltb}
+use lib.Dec.{T, ltb, ltb→lt, lt→ltb}
 use Rattle.paper.specs.Table1.{𝐢, code}
 use Rattle.paper.specs.Rules.{Rule, positive, negative, negation}
 use Rattle.sets.specs.Sets.{_∈_}
 use Rattle.paper.specs.Definitions.{value, groupValue, anyValue, bodyValue, Model, SupportsRuleOf, RestsOnInconsistent, WellSupported}
 use Rattle.paper.specs.Examples.{P2, P6, P10, allLiterals, allButNegativeB}
-use Rattle.sets.proofs.Tests.{either, T→true}
+use Rattle.sets.proofs.Tests.{T→true}
+use Rattle.sets.proofs.Numbers.{downFrom, downFrom-has}
 
 -- a statement of each member of a list, one by one
 pub each {ℓ} : {A : Type 0} {P : A → Type ℓ} {x : A} {l : List A} → P x → ((y : A) → y ∈ l → P y) → (y : A) → y ∈ (x ∷ l) → P y
@@ -19,20 +19,6 @@ each {P = P} h f y m = ⊎-elim (λ e. subst⁻¹ P e h) (λ k. f y k) (List·Me
 
 pub no-more {ℓ} : {A : Type 0} {C : Type ℓ} {y : A} → y ∈ [] → C
 no-more m = absurd (List·Memᴰ·not-nil m)
-
--- the numbers below n, from the last to 0
-abbrev downFrom : ℕ → List ℕ
-downFrom zero = []
-downFrom (suc n) = n ∷ downFrom n
-
-downFrom-has : (n l : ℕ) → l < n → l ∈ downFrom n
-downFrom-has zero l lt = absurd (omega arith)
-downFrom-has (suc n) l lt =
-    ⊎-elim (λ (q : T (eqb l n)). List·Memᴰ·head (eqb→eq l n q))
-    (λ (q : T (not (eqb l n))).
-    let ne : (l ≡ n → ⊥) = λ p. T-not (eqb l n) q (subst⁻¹ (λ (z : ℕ). T (eqb z n)) p (eqb-refl n)) in
-    List·Memᴰ·tail (downFrom-has n l (omega arith)))
-    (either (eqb l n))
 
 -- both literals of each of N atoms: each is i
 all-i : (N l : ℕ) → T (allLiterals N l) → value (allLiterals N) l ≡ 𝐢

@@ -17,7 +17,8 @@ use Rattle.reader.specs.declared.SheetLiteral.{SheetLiteral}
 use Rattle.reader.specs.declared.Next.{Next}
 use Rattle.reader.specs.declared.Reading.{Reading}
 use Rattle.reader.specs.declared.Reading.the-variants.{End, Refused, Literal}
-use Rattle.reader.specs.Sheet.{byteAt, isTab, isLineEnd, isSpace, isMinus, startsName, isDigit, continuesName, nameRun, mayFollow, byteBefore, lineOf}
+use Rattle.decimals.specs.Decimals.{isDigit}
+use Rattle.reader.specs.Sheet.{byteAt, isTab, isLineEnd, isSpace, isMinus, startsName, continuesName, nameRun, mayFollow, byteBefore, lineOf}
 use Rattle.refusal.specs.Checks.{demanding}
 use Rattle.refusal.proofs.Laws.{demanding-met, demanding-holds}
 use Rattle.reader.specs.Readings.{endedName, nameAt, literalAt, lineAt, readingAfter, readingAt, placeAfter, nextAt, ReadersNumber, GivesOnly, NoLiteral, reached}

@@ -8,7 +8,8 @@ use lib.Dec.{ltb}
 use lib.ListN.{length, drop, drop-of-length-le, List·getD-eq-default}
 use lib.Seq.{drop-cons}
 use borrow.Author.Tests.{ltb-true, ltb-false}
-use Rattle.reader.specs.Sheet.{byteAt, startsName, isDigit, continuesName, nameRun, byteBefore}
+use Rattle.decimals.specs.Decimals.{isDigit}
+use Rattle.reader.specs.Sheet.{byteAt, startsName, continuesName, nameRun, byteBefore}
 
 -- past the end stands 0, so a byte of a kind that 0 is not of is in the sheet
 pub inside-by : (kind : ℕ → Bool) → kind 0 ≡ false → (s : List ℕ) (i : ℕ) → kind (byteAt s i) ≡ true → i < length s

@@ -4,6 +4,7 @@ use mathlib.Core.Bool.{Bool, _&&_, _||_, cond}
 use Prim.Native.Nat.{ℕ, zero, suc}
 use lib.Dec.{leb, eqb}
 use lib.ListN.{getD}
+use Rattle.decimals.specs.Decimals.{isDigit}
 use Rattle.reader.specs.declared.Role.{Role}
 use Rattle.reader.specs.declared.Role.the-variants.{Head, First, Further}
 
@@ -30,9 +31,6 @@ isMinus b = eqb b 45
 -- a name: first a to z
 unfoldable pub startsName : ℕ → Bool
 startsName b = leb 97 b && leb b 122
-
-unfoldable pub isDigit : ℕ → Bool
-isDigit b = leb 48 b && leb b 57
 
 -- then a to z, 0 to 9, "_" or "."
 unfoldable pub continuesName : ℕ → Bool

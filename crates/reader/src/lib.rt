@@ -3,7 +3,7 @@ ghost use mathlib.Core.Path.{_≡_};
 ghost use Prim.Native.Nat.{_+_, _<_, _≤_, _^_};
 ghost use lib.ListN.{length, getD, drop};
 ghost use Rattle.refusal.specs.Numbers.{refusal};
-ghost use Rattle.reader.specs.Sheet.{startsName, isDigit, continuesName, nameRun, mayFollow, byteBefore};
+ghost use Rattle.reader.specs.Sheet.{startsName, continuesName, nameRun, mayFollow, byteBefore};
 ghost use Rattle.reader.specs.Readings.{endedName, nameAt, literalAt, lineAt, readingAfter, readingAt, placeAfter, nextAt};
 
 // Where a literal stands: at the start of a line, or in a group.
@@ -53,19 +53,13 @@ fn starts_name(b: u8) -> bool
     97 <= b && b <= 122
 }
 
-fn is_digit(b: u8) -> bool
-    ensures { λ r. ⌜ r ≡ isDigit b ⌝ }
-{
-    48 <= b && b <= 57
-}
-
 fn continues_name(b: u8) -> bool
     ensures { λ r. ⌜ r ≡ continuesName b ⌝ }
 {
     if starts_name(b) {
         return true;
     }
-    if is_digit(b) {
+    if decimals::is_digit(b) {
         return true;
     }
     if b == b'_' {

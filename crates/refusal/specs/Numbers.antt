@@ -61,7 +61,7 @@ too-many-in-body byte = refusal 13 byte
 abbrev pub too-many-words : ℕ → Refusal
 too-many-words byte = refusal 14 byte
 
--- 15: value sheet does not fit the text room; place: bytes needed
+-- 15: value sheet, or reason sheet, does not fit the text room; place: bytes needed
 abbrev pub text-room-too-small : ℕ → Refusal
 text-room-too-small needed = refusal 15 needed
 
@@ -81,6 +81,18 @@ not-settled = refusal 18 0
 abbrev pub never-settled : Refusal
 never-settled = refusal 19 0
 
--- 20: truth code above 3 handed to a connective; place 0
-abbrev pub not-a-truth-code : Refusal
-not-a-truth-code = refusal 20 0
+-- 20: truth code above 3 handed to a connective, place 0; value code above 3, place: atom
+abbrev pub not-a-truth-code : ℕ → Refusal
+not-a-truth-code atom = refusal 20 atom
+
+-- 21: text of a reason sheet broken; place: its first bad byte, or its length
+abbrev pub text-broken : ℕ → Refusal
+text-broken byte = refusal 21 byte
+
+-- 22: line of a reason sheet missing, out of order or surplus, then not justified or rank above 1,023; place: line, from 1
+abbrev pub line-not-justified : ℕ → Refusal
+line-not-justified line = refusal 22 line
+
+-- 34: values not a model; place: head word of the first rule not satisfied
+abbrev pub not-a-model : ℕ → Refusal
+not-a-model word = refusal 34 word

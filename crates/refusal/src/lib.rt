@@ -94,3 +94,9 @@ pub const NOT_SETTLED: u64 = 18;
 pub const NEVER_SETTLED: u64 = 19;
 
 pub const NOT_A_TRUTH_CODE: u64 = 20;
+
+pub const TEXT_BROKEN: u64 = 21;
+
+pub const LINE_NOT_JUSTIFIED: u64 = 22;
+
+pub const NOT_A_MODEL: u64 = 34;

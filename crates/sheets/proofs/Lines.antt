@@ -15,7 +15,8 @@ use Rattle.paper.proofs.Smallest.{smallest-unique}
 use Rattle.sets.specs.Sets.{_∈_}
 use Rattle.words.specs.Layout.{TableRecord, recordsOf, rulesIn, rulesOf}
 use Rattle.reader.specs.declared.Role.the-variants.{Head}
-use Rattle.reader.specs.Sheet.{lineOf, isLineEnd, startsName, isDigit, continuesName}
+use Rattle.decimals.specs.Decimals.{isDigit}
+use Rattle.reader.specs.Sheet.{lineOf, isLineEnd, startsName, continuesName}
 use Rattle.reader.specs.Readings.{readingAt, reached}
 use Rattle.reader.specs.declared.Reading.the-variants.{Literal}
 use Rattle.reader.specs.declared.SheetLiteral.{SheetLiteral}

@@ -20,7 +20,7 @@ withValue-code 𝐮 f = refl
 withValue-code 𝐢 f = refl
 withValue-code 𝐭 f = refl
 
-withValue-above : (v : ℕ) (f : Value → Numbered) → 3 < v → withValue v f ≡ Refused not-a-truth-code
+withValue-above : (v : ℕ) (f : Value → Numbered) → 3 < v → withValue v f ≡ Refused (not-a-truth-code 0)
 unfolding withValue
 withValue-above zero f h = absurd (omega arith)
 withValue-above (suc zero) f h = absurd (omega arith)
@@ -28,7 +28,8 @@ withValue-above (suc (suc zero)) f h = absurd (omega arith)
 withValue-above (suc (suc (suc zero))) f h = absurd (omega arith)
 withValue-above (suc (suc (suc (suc n)))) f h = refl
 
-withValue-refused : (v : ℕ) (f : Value → Numbered) → ((a : Value) → f a ≡ Refused not-a-truth-code) → withValue v f ≡ Refused not-a-truth-code
+withValue-refused : (v : ℕ) (f : Value → Numbered) → ((a : Value) → f a ≡ Refused (not-a-truth-code 0)) → withValue v f ≡ Refused
+    (not-a-truth-code 0)
 unfolding withValue
 withValue-refused zero f h = h 𝐟
 withValue-refused (suc zero) f h = h 𝐮
@@ -63,10 +64,10 @@ module _ (f : Value → Value → Value) where
       ap Number (h (a .0) (b .0) (a .1) (b .1)) ∙ sym (both-codes (a .0) (b .0))
       ∙ ap₂ (λ (m n : ℕ). withValue m (λ x. withValue n (λ y. Number (code (f x y))))) (a .1) (b .1)
 
-  pub first-refused : (v w : ℕ) → 3 < v → Refused not-a-truth-code ≡ withValue v (λ x. withValue w (λ y. Number (code (f x y))))
+  pub first-refused : (v w : ℕ) → 3 < v → Refused (not-a-truth-code 0) ≡ withValue v (λ x. withValue w (λ y. Number (code (f x y))))
   first-refused v w h = sym (withValue-above v (λ x. withValue w (λ y. Number (code (f x y)))) h)
 
-  pub second-refused : (v w : ℕ) → 3 < w → Refused not-a-truth-code ≡ withValue v (λ x. withValue w (λ y. Number (code (f x y))))
+  pub second-refused : (v w : ℕ) → 3 < w → Refused (not-a-truth-code 0) ≡ withValue v (λ x. withValue w (λ y. Number (code (f x y))))
   second-refused v w h =
       sym (withValue-refused v (λ x. withValue w (λ y. Number (code (f x y)))) (λ a. withValue-above w (λ y. Number (code (f a y))) h))
 
@@ -110,7 +111,7 @@ kept v hv h k =
     ap Number (sym (not-code (a .0) (λ e. h (sym (a .1) ∙ e)) (λ e. k (sym (a .1) ∙ e)) ∙ a .1))
     ∙ sym (not-is-table-1 (a .0)) ∙ ap negated (a .1)
 
-pub not-refused : (v : ℕ) → 3 < v → Refused not-a-truth-code ≡ negated v
+pub not-refused : (v : ℕ) → 3 < v → Refused (not-a-truth-code 0) ≡ negated v
 not-refused v h = sym (withValue-above v (λ x. Number (code (not′ x))) h)
 
 -- four codes of a row

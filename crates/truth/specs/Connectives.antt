@@ -11,7 +11,7 @@ withValue zero f = f 𝐟
 withValue (suc zero) f = f 𝐮
 withValue (suc (suc zero)) f = f 𝐢
 withValue (suc (suc (suc zero))) f = f 𝐭
-withValue (suc (suc (suc (suc n)))) f = Refused not-a-truth-code
+withValue (suc (suc (suc (suc n)))) f = Refused (not-a-truth-code 0)
 
 abbrev pub conjunction : ℕ → ℕ → Numbered
 conjunction v w = withValue v (λ a. withValue w (λ b. Number (code (a and b))))

@@ -8,7 +8,7 @@ const IMPLICATION: [[u64; 4]; 4] = [[3, 3, 3, 3], [3, 3, 3, 3], [0, 0, 3, 0], [0
 
 // A number above 3 is no truth code.
 fn refused() -> Numbered
-    ensures { λ r. ⌜ r ≡ Numbered.Refused not-a-truth-code ⌝ }
+    ensures { λ r. ⌜ r ≡ Numbered.Refused (not-a-truth-code 0) ⌝ }
 {
     Numbered::Refused(refusal::at(refusal::NOT_A_TRUTH_CODE, 0))
 }

@@ -1,7 +1,7 @@
 use borrow.Author.Tests.{le-leb, lt-leb}
-use Rattle.reader.specs.Sheet.{isDigit}
-use Rattle.reader.proofs.is_digit.Statement.{statement}
-use Rattle.reader.proofs.is_digit.Tie as tie
+use Rattle.decimals.specs.Decimals.{isDigit}
+use Rattle.decimals.proofs.is_digit.Statement.{statement}
+use Rattle.decimals.proofs.is_digit.Tie as tie
 
 returns : tie.Need-returns
 unfolding isDigit

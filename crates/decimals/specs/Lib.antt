@@ -1,0 +1,2 @@
+-- Decimal numbers as bytes.
+pub mod Decimals

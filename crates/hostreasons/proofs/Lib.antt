@@ -1,0 +1,5 @@
+pub mod Checking
+pub mod Determined
+pub mod Writing
+pub mod WrittenOnce
+pub mod OnlyLines

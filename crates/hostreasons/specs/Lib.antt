@@ -1,0 +1,3 @@
+pub mod CheckBytes
+pub mod Readable
+pub mod ReasonBytes

@@ -1,0 +1,1 @@
+// When a line of a reason sheet is justified: no code, only what proofs speak of.

@@ -1,0 +1,2 @@
+-- The ranks, and the lines of a reason sheet.
+pub mod Found

@@ -1,0 +1,3 @@
+-- The writer of reason sheets, and which sheet it picks.
+pub mod Sheet
+pub mod Reasons

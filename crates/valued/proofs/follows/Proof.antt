@@ -1,0 +1,19 @@
+use mathlib.Core.Path.{refl}
+use borrow.Author.Tests.{le-leb, lt-leb, ne-eqb}
+use Rattle.valued.proofs.follows.Statement.{statement}
+use Rattle.valued.proofs.follows.Tie as tie
+
+returns : tie.Need-returns
+returns c =
+    rw (le-leb _ _ (c .if1 .taken)) refl
+
+returns-2 : tie.Need-returns-2
+returns-2 c =
+    rw (c .if2 .taken) refl
+
+returns-3 : tie.Need-returns-3
+returns-3 c =
+    rw (lt-leb _ _ (c .before .if1 .left), ne-eqb _ _ (c .if2 .left)) refl
+
+pub follows-spec : {M : Type 1} → statement M
+follows-spec = tie.close (tie.spec returns returns-2 returns-3)
