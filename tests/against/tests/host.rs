@@ -1,4 +1,4 @@
-//! The host's three entries through the C boundary: answers, every byte of every buffer, and guards around each.
+//! Evaluation, the question of conflict and the sheet entry through the C boundary: answers, every byte of every buffer, and guards around each.
 
 use second::random::{self, Chance, table_bytes};
 

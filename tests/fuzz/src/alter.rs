@@ -1,7 +1,7 @@
 //! Inputs altered at random, with no regard to what they mean but for the lines of tables.
 
 use second::host::whole_words;
-use second::random::{Chance, any_line, line_places, sheet_byte};
+use second::random::{Chance, any_line, line_places, reason_byte, sheet_byte};
 
 /// A part of the row: where it begins and ends, mostly short.
 fn part(chance: &mut Chance, length: usize) -> (usize, usize) {
@@ -86,4 +86,9 @@ pub fn table(chance: &mut Chance, row: Vec<u8>, other: &[u8]) -> Vec<u8> {
 pub fn sheet(chance: &mut Chance, row: Vec<u8>, other: &[u8]) -> Vec<u8> {
     let times = times(chance);
     altered(chance, row, other, times, |chance| if chance.one_in(8) { chance.number() as u8 } else { sheet_byte(chance) })
+}
+
+pub fn reasons(chance: &mut Chance, row: Vec<u8>, other: &[u8]) -> Vec<u8> {
+    let times = times(chance);
+    altered(chance, row, other, times, |chance| if chance.one_in(8) { chance.number() as u8 } else { reason_byte(chance) })
 }

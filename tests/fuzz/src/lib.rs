@@ -1,4 +1,4 @@
-//! The program and the host's three entries against the second implementation.
+//! The program and the host's entries against the second implementation.
 //!
 //! A case is drawn from the seed and its own number alone, so that it can be run again by itself: an input of `second::random`,
 //! altered a few times (`alter`), and buffers to lend. Both sides must answer the same and leave the same bytes. The engine's
@@ -13,7 +13,7 @@ use against::cases::Tally;
 use against::shrink::without_parts;
 use second::random::Chance;
 
-/// What is handed over: N (with a table), the table or sheet, and the buffers lent to be written.
+/// What is handed over: N (with a table), the table or sheet, and the buffers lent beside it.
 #[derive(Clone, Debug)]
 pub struct Case {
     pub n: u64,
@@ -28,7 +28,7 @@ pub struct Outcome {
     pub left: Vec<Vec<u8>>,
 }
 
-/// One of the four things that are tried.
+/// One of the six things that are tried.
 pub struct Target {
     pub name: &'static str,
     pub draw: fn(&mut Chance) -> Case,

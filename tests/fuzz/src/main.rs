@@ -1,5 +1,5 @@
-//! `fuzz SECONDS SEED [TARGET [CASE]]`: a quarter of the time for each of evaluation, the question of conflict, the sheet entry and the
-//! program, and at least a thousand cases, so that a slow machine meets every outcome too.
+//! `fuzz SECONDS SEED [TARGET [CASE]]`: a sixth of the time for each of evaluation, the question of conflict, the writer and the check of
+//! reason sheets, the sheet entry and the program, and at least a thousand cases, so that a slow machine meets every outcome too.
 //!
 //! The program is target/bin/simmer, or what SIMMER names. With a target, that one alone; with the number of a case, that case alone. Status 1 at the
 //! first case on which the two sides part, or where the engine left its buffers.
@@ -51,7 +51,7 @@ extern "C" fn crashed(_signal: c_int) {
 }
 
 fn usage() -> ! {
-    eprintln!("fuzz SECONDS SEED [evaluate|conflict|sheet|program [CASE]]");
+    eprintln!("fuzz SECONDS SEED [evaluate|conflict|reasons|check|sheet|program [CASE]]");
     exit(2)
 }
 
@@ -62,8 +62,15 @@ fn program() -> PathBuf {
     }
 }
 
-fn all() -> [Target; 4] {
-    [targets::evaluation(), targets::conflict(), targets::sheet(), targets::program(program())]
+fn all() -> [Target; 6] {
+    [
+        targets::evaluation(),
+        targets::conflict(),
+        targets::reasons(),
+        targets::check_reasons(),
+        targets::sheet(),
+        targets::program(program()),
+    ]
 }
 
 fn main() {
@@ -97,7 +104,7 @@ fn named(name: &str) -> Target {
 fn timed(seconds: u64, seed: u64, mut target: Target) {
     SEED.store(seed, Ordering::Relaxed);
     let started = Instant::now();
-    let share = Duration::from_millis(seconds * 1000 / 4);
+    let share = Duration::from_millis(seconds * 1000 / 6);
     match run(&mut target, seed, |number| number < LEAST || started.elapsed() < share) {
         Ok(tally) => {
             println!("{}: {} cases, {tally:?}", target.name, tally.total());

@@ -1,4 +1,5 @@
-//! The four things that are tried: evaluation, the question of conflict, the sheet entry, the program.
+//! The six things that are tried: evaluation, the question of conflict, the writer and the check of reason sheets, the sheet entry, the
+//! program.
 
 use std::fs::{self, File};
 use std::path::PathBuf;
@@ -98,6 +99,97 @@ pub fn conflict() -> Target {
             _ => table_kind(&case.bytes, outcome),
         },
         kinds: &["yes", "no", "1", "2", "4", "5", "6", "6, at a line", "7"],
+    }
+}
+
+/// The engine's sheet is its own choice, so it is judged here, and the outcome is what every good writer has: the refusal before 15, or 0
+/// if the sheet is good, is in the room as far as it fits, and all else stays. Anything else is told by `u64::MAX`.
+fn judged(case: &Case, answer: u64, left: &[u8], whole: &[u8]) -> Outcome {
+    let room = &case.lent[0];
+    if second::host::refused_writing(case.n, &case.bytes).is_some() {
+        return Outcome { answer, left: vec![left.to_vec()] };
+    }
+    let good = second::reasons::check_written(case.n, &whole_words(&case.bytes).0, whole).is_ok();
+    let length = whole.len();
+    let expected = if length <= room.len() {
+        (length as u64, [whole, &room[length..]].concat())
+    } else {
+        ((15 << 32) + length as u64, room.clone())
+    };
+    if good && (answer, left) == (expected.0, &expected.1[..]) {
+        Outcome { answer: 0, left: Vec::new() }
+    } else {
+        Outcome { answer: u64::MAX, left: vec![left.to_vec()] }
+    }
+}
+
+/// The writer of reason sheets. The second implementation writes none, so it answers 0 for every good one.
+pub fn reasons() -> Target {
+    let (mut table, mut text) = (Pages::default(), Pages::default());
+    Target {
+        name: "reasons",
+        draw: |chance| {
+            let (n, bytes) = draw_table(chance);
+            let length = chance.of(&[0, 1, 8, 40, 200, 18_432]) + chance.index(9);
+            Case { n, bytes, lent: vec![chance.bytes(length)] }
+        },
+        engine: Box::new(move |case| {
+            let behind = behind(case);
+            let lent = table.read_only(&case.bytes, behind);
+            let answer = against::host::reasons(case.n, lent, text.to_write(&case.lent[0], behind));
+            let left = text.lent().to_vec();
+            // The whole sheet, in as much room as no room is told.
+            let told = against::host::reasons(case.n, lent, text.to_write(&[], behind));
+            let length = if told >> 32 == 15 { told as u32 as usize } else { 0 };
+            let served = against::host::reasons(case.n, lent, text.to_write(&vec![0x5a; length], behind));
+            let whole = if served == length as u64 { text.lent().to_vec() } else { b"not served".to_vec() };
+            judged(case, answer, &left, &whole)
+        }),
+        second: |case| match second::host::refused_writing(case.n, &case.bytes) {
+            Some(answer) => Outcome { answer, left: case.lent.clone() },
+            None => Outcome { answer: 0, left: Vec::new() },
+        },
+        kind: |case, outcome| table_kind(&case.bytes, outcome),
+        kinds: &["ok", "1", "2", "4", "5", "6", "6, at a line", "7"],
+    }
+}
+
+/// N, the bytes of a table, values and a text, each now and then altered.
+fn draw_reasons(chance: &mut Chance) -> Case {
+    let random::Claimed { n, words, values, text } = random::any_reasons(chance);
+    let other = random::any_reasons(chance);
+    let mut bytes = random::table_bytes(&words);
+    if chance.one_in(4) {
+        bytes = alter::table(chance, bytes, &random::table_bytes(&other.words));
+        bytes.truncate(200_000);
+    }
+    let text = if chance.one_in(4) { alter::reasons(chance, text, &other.text) } else { text };
+    let n = if chance.one_in(40) { random::awkward_number(chance, n) } else { n };
+    Case { n, bytes, lent: vec![values, text] }
+}
+
+pub fn check_reasons() -> Target {
+    let mut pages: [Pages; 3] = Default::default();
+    Target {
+        name: "check",
+        draw: draw_reasons,
+        engine: Box::new(move |case| {
+            let behind = behind(case);
+            let [table, values, text] = &mut pages;
+            let answer = against::host::check_reasons(
+                case.n,
+                table.read_only(&case.bytes, behind),
+                values.read_only(&case.lent[0], behind),
+                text.read_only(&case.lent[1], behind),
+            );
+            Outcome { answer, left: Vec::new() }
+        }),
+        second: |case| {
+            let answer = second::host::simmerknot_check_reasons(case.n, &case.bytes, &case.lent[0], &case.lent[1]);
+            Outcome { answer, left: Vec::new() }
+        },
+        kind: |case, outcome| table_kind(&case.bytes, outcome),
+        kinds: &["ok", "1", "2", "3", "4", "5", "6", "6, at a line", "7", "20", "21", "22", "34"],
     }
 }
 

@@ -165,6 +165,105 @@ fn conflict_that_depends_on_a_line() {
     });
 }
 
+/// How many lines the text of a case has.
+fn lines(case: &Case) -> u64 {
+    case.lent[1].iter().filter(|&&byte| byte == b'\n').count() as u64
+}
+
+#[test]
+fn check_with_lines_counted_from_0() {
+    noticed(targets::check_reasons(), 100, |_, outcome| {
+        if number(outcome) == 22 {
+            outcome.answer -= 1;
+        }
+    });
+}
+
+#[test]
+fn check_that_takes_lines_missing_at_the_end() {
+    noticed(targets::check_reasons(), 500, |case, outcome| {
+        if outcome.answer == (22 << 32) + lines(case) + 1 {
+            outcome.answer = 0;
+        }
+    });
+}
+
+#[test]
+fn check_that_takes_what_is_said_in_the_last_line() {
+    noticed(targets::check_reasons(), 500, |case, outcome| {
+        if outcome.answer == (22 << 32) + lines(case) {
+            outcome.answer = 0;
+        }
+    });
+}
+
+#[test]
+fn check_that_takes_a_text_without_its_last_byte_10() {
+    noticed(targets::check_reasons(), 5_000, |case, outcome| {
+        let whole = [&case.lent[1][..], b"\n"].concat();
+        if outcome.answer == (21 << 32) + case.lent[1].len() as u64 {
+            outcome.answer = second::host::simmerknot_check_reasons(case.n, &case.bytes, &case.lent[0], &whole);
+        }
+    });
+}
+
+#[test]
+fn check_with_34_after_22() {
+    noticed(targets::check_reasons(), 500, |case, outcome| {
+        if number(outcome) == 34 && lines(case) == 0 {
+            outcome.answer = (22 << 32) + 1;
+        }
+    });
+}
+
+#[test]
+fn check_that_looks_at_values_past_n() {
+    noticed(targets::check_reasons(), 500, |case, outcome| {
+        if outcome.answer == 0 && let Some(atom) = case.lent[0].iter().position(|&value| value > 3) {
+            outcome.answer = (20 << 32) + atom as u64;
+        }
+    });
+}
+
+#[test]
+fn check_that_meets_a_lone_byte_last() {
+    noticed(targets::check_reasons(), 500, |case, outcome| {
+        if number(outcome) == 4 && case.bytes.len() % 2 == 1 {
+            let whole = &case.bytes[..case.bytes.len() - 1];
+            let answer = second::host::simmerknot_check_reasons(case.n, whole, &case.lent[0], &case.lent[1]);
+            outcome.answer = if answer == 0 { outcome.answer } else { answer };
+        }
+    });
+}
+
+#[test]
+fn check_that_depends_on_a_line() {
+    noticed(targets::check_reasons(), 500, |case, outcome| {
+        let (words, _) = whole_words(&case.bytes);
+        if outcome.answer == 0 && line_places(&words).into_iter().any(|at| words[at] == 32_768) {
+            outcome.answer = (22 << 32) + 1;
+        }
+    });
+}
+
+#[test]
+fn reasons_written_on_a_refusal() {
+    noticed(targets::reasons(), 500, |_, outcome| {
+        if number(outcome) == 6 && !outcome.left[0].is_empty() {
+            outcome.left[0][0] ^= 1;
+        }
+    });
+}
+
+#[test]
+fn reasons_with_a_lone_byte_before_the_words() {
+    noticed(targets::reasons(), 500, |case, outcome| {
+        if number(outcome) > 4 && case.bytes.len() % 2 == 1 {
+            outcome.answer = (4 << 32) + case.bytes.len() as u64 / 2;
+        }
+    });
+}
+
 #[test]
 fn sheet_with_lines_counted_from_0() {
     noticed(targets::sheet(), 50, |_, outcome| {
@@ -279,7 +378,8 @@ fn program_with_another_status() {
 
 #[test]
 fn the_right_engines_pass() {
-    for (mut target, most) in [(targets::evaluation(), 500), (targets::conflict(), 500), (targets::sheet(), 500), (simmer(), 50)] {
+    let calls = [targets::evaluation(), targets::conflict(), targets::reasons(), targets::check_reasons(), targets::sheet()];
+    for (mut target, most) in calls.into_iter().map(|target| (target, 500)).chain([(simmer(), 50)]) {
         if let Err(parting) = run(&mut target, 2, |number| number < most) {
             panic!("{}: {}", target.name, parting.said());
         }
