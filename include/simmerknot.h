@@ -30,8 +30,9 @@
  * - A pointer and the length after it name one lent buffer. Where the length is 0 any pointer will do, NULL too.
  * - No buffer that is written may overlap another lent buffer.
  * - A buffer that is written is never read, so it may be uninitialised memory.
- * - Nothing outside the lent buffers is read or written, but less than 20 KiB of stack (measured, tests/stack.c). No memory is kept,
- *   taken or given back, so calls from several threads do not meet unless they lend the same buffer.
+ * - Nothing outside the lent buffers is read or written, but less than 24 KiB of stack, or 40 KiB in simmerknot_reasons and
+ *   simmerknot_check_reasons (measured, tests/stack.c). No memory is kept, taken or given back, so calls from several threads do not
+ *   meet unless they lend the same buffer.
  */
 #ifndef SIMMERKNOT_H
 #define SIMMERKNOT_H
@@ -48,8 +49,8 @@ extern "C" {
 
 #define SIMMERKNOT_VERSION_MAJOR 0
 #define SIMMERKNOT_VERSION_MINOR 3
-#define SIMMERKNOT_VERSION_PATCH 1
-#define SIMMERKNOT_VERSION_TEXT "0.3.1"
+#define SIMMERKNOT_VERSION_PATCH 2
+#define SIMMERKNOT_VERSION_TEXT "0.3.2"
 
 /* The version as one number, to compare with simmerknot_version(). */
 #define SIMMERKNOT_VERSION (1000000 * SIMMERKNOT_VERSION_MAJOR + 1000 * SIMMERKNOT_VERSION_MINOR + SIMMERKNOT_VERSION_PATCH)
@@ -61,6 +62,7 @@ extern "C" {
 #define SIMMERKNOT_MOST_GROUPS 64   /* of a rule */
 #define SIMMERKNOT_MOST_LITERALS 64 /* of a group */
 #define SIMMERKNOT_MOST_LINE 32768  /* number of a line */
+#define SIMMERKNOT_MOST_RANK 1023   /* in a reason sheet */
 #define SIMMERKNOT_MOST_SHEET_BYTES 65536
 #define SIMMERKNOT_MOST_NAME_BYTES 24
 
@@ -70,6 +72,9 @@ extern "C" {
 
 /* A text room that every value sheet fits: per atom a name, tab, letter and byte 10. */
 #define SIMMERKNOT_VALUE_SHEET_BYTES (SIMMERKNOT_MOST_ATOMS * (SIMMERKNOT_MOST_NAME_BYTES + 3))
+
+/* A text room that every reason sheet fits: per literal three numbers of four digits and one of two, each with a byte after it. */
+#define SIMMERKNOT_REASON_SHEET_BYTES (2 * SIMMERKNOT_MOST_ATOMS * (4 + 4 + 4 + 2 + 4))
 
 /* Calls. */
 
@@ -98,6 +103,40 @@ uint64_t simmerknot_conflict(uint64_t n, const uint8_t *table, size_t table_len)
 #define SIMMERKNOT_NO_CONFLICT 0
 #define SIMMERKNOT_CONFLICT 1
 
+/* Writes the reason sheet of a table: on which rule each literal rests that is in the model whose values simmerknot_evaluate writes.
+ *
+ * A reason sheet has one line for each literal of the model, in the order of literal codes: both literals of an atom that is i, the
+ * atom itself where it is t, its negation where it is f. A line is four decimal numbers without leading zeros, parted by tabs and
+ * ended by byte 10: the literal's code; its rank, 0 to 1,023; the head code of the rule it rests on; the number of that rule's group,
+ * from 1, or 0 for a fact. The literals of that group have smaller ranks than that head, so that no reason goes round in a circle;
+ * docs/SHEETS.md says when a line is justified. Which ranks, rules and groups are picked where several would do, and so the length,
+ * may change with the version.
+ *
+ * Read: `table`, laid out as for simmerknot_evaluate.
+ * Answered: the reason sheet's length, else a refusal: 1, 2, then the first faulty word by 4, 5, 6 or 7, as evaluation gives them,
+ *   last 15. The sheet depends on n and the rules alone, so a host may ask with no room, and then lend as much as the place of 15
+ *   says.
+ * Written: if accepted, `text` begins with the reason sheet.
+ * Untouched: `table`; the bytes of `text` past the reason sheet; all of `text` on a refusal. */
+uint64_t simmerknot_reasons(uint64_t n, const uint8_t *table, size_t table_len, uint8_t *text, size_t text_len);
+
+/* Checks a reason sheet, whoever wrote it: accepted exactly if the values are a model of the table, and each literal of it has its
+ * line and is justified there by Definitions 8 and 9 of the 4QL paper, with smaller ranks as the order. So values are
+ * well-supported exactly if some sheet is accepted with them; that they are the smallest such model, as evaluation's are, is not
+ * said. What simmerknot_reasons writes is accepted with the values that simmerknot_evaluate writes.
+ *
+ * Read: `table`, laid out as for simmerknot_evaluate; the first n bytes of `values`, the value of each atom as a simmerknot_value;
+ *   `text`.
+ * Answered: 0 if accepted, else a refusal: 1, 2, 3, then the first faulty word by 4, 5, 6 or 7, as evaluation gives them, then 20,
+ *   21, 34, last 22. The place of 20 is the atom. That of 21 is the first byte with which the text can no longer be the beginning of
+ *   such lines, or its length; a place above 4,294,967,295 is answered as that. That of 34 is the head word of the first rule that
+ *   is not satisfied. That of 22 is a line, from 1: the first that is not the next literal's, as one is missing, out of order or
+ *   surplus; else the first that is not justified or has a rank above 1,023.
+ * Written: nothing.
+ * Untouched: `table`, `values` and `text`. */
+uint64_t simmerknot_check_reasons(uint64_t n, const uint8_t *table, size_t table_len, const uint8_t *values, size_t values_len,
+                                  const uint8_t *text, size_t text_len);
+
 /* Reads a rule sheet (its layout: simmer(1), docs/SHEETS.md) and writes its value sheet.
  *
  * Read: `sheet`.
@@ -125,14 +164,15 @@ static inline int simmerknot_refused(uint64_t answer) { return (answer >> 32) !=
 /* The refusal's number, a simmerknot_refusal; 0 if the answer is none. */
 static inline uint32_t simmerknot_number(uint64_t answer) { return (uint32_t)(answer >> 32); }
 
-/* The refusal's place: a word of the table, a byte of the sheet, the bytes needed (15), or 0. */
+/* The refusal's place: a word of the table, a byte of the sheet or text, the bytes needed (15), an atom (20), a line (22), or 0. */
 static inline uint32_t simmerknot_place(uint64_t answer) { return (uint32_t)(answer & 0xffffffffu); }
 
-/* The numbers of refusal: number, name, text. The calls give 1 to 15 and 19, and none gives the others. */
+/* The numbers of refusal: number, name, text. The calls give 1 to 15, 19 to 22 and 34, and none gives the others; 23 to 33 are no
+ * refusals. */
 #define SIMMERKNOT_REFUSALS(X) \
     X(1, TOO_MANY_ATOMS, "N is above 512") \
     X(2, TABLE_TOO_LONG, "the table has more than 8,192 words") \
-    X(3, VALUE_ROOM_TOO_SMALL, "the value room has fewer than N bytes") \
+    X(3, VALUE_ROOM_TOO_SMALL, "fewer than N bytes are lent for the values") \
     X(4, CUT_SHORT, "a record is cut short") \
     X(5, NOT_A_LITERAL, "a literal code is not below 2N") \
     X(6, OUT_OF_RANGE, "a rule has more than 64 groups, a group has no literal or more than 64, or a line number is above 32,768") \
@@ -144,19 +184,22 @@ static inline uint32_t simmerknot_place(uint64_t answer) { return (uint32_t)(ans
     X(12, TOO_MANY_NAMES, "a 513th name") \
     X(13, TOO_MANY_IN_BODY, "a 65th group in a rule, or a 65th literal in a group") \
     X(14, TOO_MANY_WORDS, "the rules would fill more than 8,192 words") \
-    X(15, TEXT_ROOM_TOO_SMALL, "the value sheet does not fit the text room") \
+    X(15, TEXT_ROOM_TOO_SMALL, "the value sheet or reason sheet does not fit the text room") \
     X(16, NO_SUCH_ATOM, "the picked atom is not below N") \
     X(17, MARK_PAST_ATOMS, "the record has a mark at N or above") \
     X(18, NOT_SETTLED, "a report before the marking is settled") \
     X(19, NEVER_SETTLED, "evaluation has made N marks and is not settled") \
-    X(20, NOT_A_TRUTH_CODE, "a truth code is above 3")
+    X(20, NOT_A_TRUTH_CODE, "the code of a truth value is above 3") \
+    X(21, TEXT_BROKEN, "a byte that cannot stand there in a reason sheet, or the text ended inside a line") \
+    X(22, LINE_NOT_JUSTIFIED, "a line of the reason sheet is missing, out of order, surplus, not justified or ranked above 1,023") \
+    X(34, NOT_A_MODEL, "the values are no model: a rule is not satisfied")
 
 /* SIMMERKNOT_TOO_MANY_ATOMS = 1 and so on. */
 typedef enum simmerknot_refusal {
 #define SIMMERKNOT_X(number, name, text) SIMMERKNOT_##name = number,
     SIMMERKNOT_REFUSALS(SIMMERKNOT_X)
 #undef SIMMERKNOT_X
-    SIMMERKNOT_LAST_REFUSAL = SIMMERKNOT_NOT_A_TRUTH_CODE
+    SIMMERKNOT_LAST_REFUSAL = SIMMERKNOT_NOT_A_MODEL
 } simmerknot_refusal;
 
 /* The name of a number, as "SECOND_RULE"; "" for a number that is not in the list. */
@@ -179,7 +222,7 @@ static inline const char *simmerknot_refusal_text(uint32_t number) {
     }
 }
 
-/* Values, in truth order, as simmerknot_evaluate writes them. */
+/* Values, in truth order, as simmerknot_evaluate writes them and simmerknot_check_reasons reads them. */
 typedef enum simmerknot_value {
     SIMMERKNOT_F = 0, /* false */
     SIMMERKNOT_U = 1, /* unknown: nobody spoke */

@@ -9,9 +9,9 @@
 enum { STACK = 1 << 20 };
 static uint8_t stack[STACK] __attribute__((aligned(4096)));
 static uint8_t table[6144], values[512], words[SIMMERKNOT_WORD_BUFFER_BYTES], names[SIMMERKNOT_NAME_BUFFER_BYTES];
-static uint8_t text[SIMMERKNOT_VALUE_SHEET_BYTES];
+static uint8_t text[SIMMERKNOT_VALUE_SHEET_BYTES], reasons[SIMMERKNOT_REASON_SHEET_BYTES];
 static char sheet[8192];
-static size_t table_len, sheet_len;
+static size_t table_len, sheet_len, reasons_len;
 static uint64_t answer;
 static uint8_t *frame; /* of the caller */
 
@@ -24,6 +24,18 @@ static void *evaluates(void *unused) {
 static void *asks(void *unused) {
     frame = __builtin_frame_address(0);
     answer = simmerknot_conflict(512, table, table_len);
+    return unused;
+}
+
+static void *writes(void *unused) {
+    frame = __builtin_frame_address(0);
+    answer = simmerknot_reasons(512, table, table_len, reasons, sizeof reasons);
+    return unused;
+}
+
+static void *checks(void *unused) {
+    frame = __builtin_frame_address(0);
+    answer = simmerknot_check_reasons(512, table, table_len, values, sizeof values, reasons, reasons_len);
     return unused;
 }
 
@@ -48,7 +60,7 @@ static size_t touched(void *(*call)(void *)) {
 }
 
 int main(void) {
-    size_t evaluation, asking, reading;
+    size_t evaluation, asking, writing, checking, reading;
     int i;
     /* 1,024 facts, both literals of each atom, as a table and as a sheet */
     for (i = 0; i < 1024; i++) {
@@ -64,8 +76,13 @@ int main(void) {
     if (answer != 0) return 1;
     asking = touched(asks);
     if (answer != SIMMERKNOT_CONFLICT) return 1;
+    writing = touched(writes);
+    if (simmerknot_refused(answer)) return 1;
+    reasons_len = (size_t)answer;
+    checking = touched(checks);
+    if (answer != 0) return 1;
     reading = touched(reads);
     if (simmerknot_refused(answer)) return 1;
-    printf("evaluate %zu\nconflict %zu\nsheet %zu\n", evaluation, asking, reading);
+    printf("evaluate %zu\nconflict %zu\nreasons %zu\ncheck_reasons %zu\nsheet %zu\n", evaluation, asking, writing, checking, reading);
     return 0;
 }

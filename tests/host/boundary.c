@@ -7,8 +7,9 @@
  *   before     its last byte just before a page that can be neither read nor written
  *   after      its first byte just after such a page
  * The archive is not instrumented, so a byte too far by its own code shows only against such a page or under valgrind. Where
- * pages are used, the table and the sheet lie in pages that cannot be written. After the written cases come CASES random ones
- * of each call and of words looked at. The last line is the number of calls checked; the first fault ends the run. */
+ * pages are used, what is only read lies in pages that cannot be written. After the written cases come CASES random ones
+ * of each call and of words looked at. The last line is the number of calls checked; the first fault ends the run.
+ * With "long" in place of PLACEMENT the one call is a check of a reason sheet above 4 GiB. */
 #define _DEFAULT_SOURCE
 #include <simmerknot.h>
 #include <stdio.h>
@@ -155,6 +156,12 @@ static size_t records_in(const uint8_t *bytes, size_t len, struct record *record
     return found;
 }
 
+static size_t lines_of(const uint8_t *text, size_t len) {
+    size_t i, lines = 0;
+    for (i = 0; i < len; i++) lines += text[i] == '\n';
+    return lines;
+}
+
 /* The header's functions over words. */
 
 /* The line of the first of the records with that head. */
@@ -262,6 +269,196 @@ static void check_conflict(uint64_t n, const uint8_t *table, size_t table_len, u
     take_back(t);
 }
 
+/* simmerknot_reasons and simmerknot_check_reasons. */
+
+struct reason {
+    unsigned literal, rank, head, group;
+};
+enum { MOST_LINES = 1024 };
+
+/* The reason sheet that was written last, and its lines. */
+static uint8_t reasoned[SIMMERKNOT_REASON_SHEET_BYTES];
+static size_t reasoned_len, line_count;
+static struct reason lines[MOST_LINES + 1];
+
+static unsigned long written, forged;
+
+/* The lines of a reason sheet, which must be one: its numbers, written anew, are its bytes. */
+static void read_reasons(void) {
+    char again[40];
+    size_t at = 0, line_len;
+    for (line_count = 0; at < reasoned_len; line_count++) {
+        struct reason *l = &lines[line_count];
+        unsigned *const numbers[] = {&l->literal, &l->rank, &l->head, &l->group};
+        size_t i, from = at;
+        check(line_count < MOST_LINES, "more than 1,024 lines");
+        for (i = 0; i < 4; i++, from++) {
+            *numbers[i] = 0;
+            while (from < reasoned_len && reasoned[from] >= '0' && reasoned[from] <= '9' && *numbers[i] < 1024) {
+                *numbers[i] = 10 * *numbers[i] + (unsigned)(reasoned[from++] - '0');
+            }
+        }
+        line_len = (size_t)sprintf(again, "%u\t%u\t%u\t%u\n", l->literal, l->rank, l->head, l->group);
+        check(line_len <= reasoned_len - at && memcmp(again, reasoned + at, line_len) == 0, "no line of a reason sheet");
+        check(l->rank <= SIMMERKNOT_MOST_RANK && l->group <= SIMMERKNOT_MOST_GROUPS, "a rank above 1,023 or a group above 64");
+        at += line_len;
+    }
+}
+
+/* The literals of the lines are those of the values, in code order: both of an i, the atom of a t, the negation of an f. */
+static void check_literals(uint64_t n) {
+    size_t at = 0;
+    unsigned code;
+    for (code = 0; code < 2 * n; code++) {
+        const char value = valued[code / 2];
+        if (value != 'i' && value != (code % 2 ? 'f' : 't')) continue;
+        check(at < line_count && lines[at].literal == code, "another literal");
+        check(lines[at].head / 2 == code / 2, "a rule of another atom");
+        at++;
+    }
+    check(at == line_count, "a line too many");
+}
+
+static uint64_t write_reasons(uint64_t n, const uint8_t *table, size_t table_len, size_t room) {
+    struct lent t = lend_to_read(table, table_len), x = lend_filled(room);
+    const uint64_t answer = simmerknot_reasons(n, t.at, t.len, x.at, x.len);
+    calls++;
+    check(t.len == 0 || memcmp(t.at, table, table_len) == 0, "the writer of reasons altered the table");
+    if (simmerknot_refused(answer)) {
+        const uint32_t number = simmerknot_number(answer);
+        check(number == 1 || number == 2 || (number >= 4 && number <= 7) || number == 15, "a number that the writer does not give");
+        check(number != 15 || simmerknot_place(answer) > room, "15, and there is room");
+        check_untouched(x, 0, "a refusal wrote a reason");
+    } else {
+        check(answer <= room && answer <= sizeof reasoned, "longer than the text room or than any sheet");
+        reasoned_len = (size_t)answer;
+        if (reasoned_len) memcpy(reasoned, x.at, reasoned_len);
+        check_untouched(x, reasoned_len, "a byte past the reason sheet was altered");
+    }
+    take_back(t);
+    take_back(x);
+    return answer;
+}
+
+static uint64_t check_sheet(uint64_t n, const uint8_t *table, size_t table_len, const uint8_t *values, size_t values_len,
+                            const uint8_t *text, size_t text_len) {
+    struct lent t = lend_to_read(table, table_len), v = lend_to_read(values, values_len), x = lend_to_read(text, text_len);
+    const uint64_t answer = simmerknot_check_reasons(n, t.at, t.len, v.at, v.len, x.at, x.len);
+    const uint32_t number = simmerknot_number(answer);
+    calls++;
+    check(t.len == 0 || memcmp(t.at, table, table_len) == 0, "the check altered the table");
+    check(v.len == 0 || memcmp(v.at, values, values_len) == 0, "the check altered the values");
+    check(x.len == 0 || memcmp(x.at, text, text_len) == 0, "the check altered the reason sheet");
+    if (simmerknot_refused(answer)) {
+        check((number >= 1 && number <= 7) || (number >= 20 && number <= 22) || number == 34, "a number that the check does not give");
+    } else {
+        check(answer == 0, "accepted, and not 0");
+    }
+    take_back(t);
+    take_back(v);
+    take_back(x);
+    return answer;
+}
+
+static size_t put_reasons(uint8_t *text, const struct reason *row, size_t count) {
+    size_t i, len = 0;
+    for (i = 0; i < count; i++) {
+        len += (size_t)sprintf((char *)text + len, "%u\t%u\t%u\t%u\n", row[i].literal, row[i].rank, row[i].head, row[i].group);
+    }
+    return len;
+}
+
+/* One alteration of a good sheet, or of the values lent with it, and what is then answered. */
+static void forge(uint64_t n, const uint8_t *table, size_t table_len, const uint8_t *values) {
+    static const uint8_t in_no_sheet[] = {0, ' ', '-', '/', ':', 'x', '\r', 255};
+    static struct reason row[MOST_LINES + 1];
+    static uint8_t text[SIMMERKNOT_REASON_SHEET_BYTES + 64], other[SIMMERKNOT_MOST_ATOMS + 1];
+    enum {
+        FEWER_VALUES, NO_CODE, MORE_VALUES,
+        CUT, WRONG_BYTE, UNENDED,
+        MISSING, SURPLUS, NO_LITERAL, NO_GROUP, NO_FACT, OTHER_ATOM, ABOVE_1023, SWAPPED,
+        KINDS
+    };
+    const size_t kind = below(line_count ? KINDS : CUT);
+    const size_t j = line_count ? below(line_count) : 0, k = line_count ? (j + 1) % line_count : 0;
+    size_t len = reasoned_len, count = line_count, values_len = (size_t)n, at;
+    uint64_t answer, wanted = 0;
+    if ((kind < MORE_VALUES && n == 0) || (kind == SWAPPED && j == k)) return;
+    memcpy(other, values, values_len);
+    memcpy(text, reasoned, len);
+    memcpy(row, lines, count * sizeof *row);
+    if (kind == FEWER_VALUES) {
+        values_len--;
+        wanted = refusal(3, 0);
+    } else if (kind == NO_CODE) {
+        at = below(values_len);
+        other[at] = (uint8_t)(4 + below(252));
+        wanted = refusal(20, at);
+    } else if (kind == MORE_VALUES) {
+        other[values_len++] = (uint8_t)below(256);
+    } else if (kind <= UNENDED) {
+        at = kind == UNENDED ? len - 1 : below(len);
+        if (kind == WRONG_BYTE) text[at] = in_no_sheet[below(sizeof in_no_sheet)];
+        else len = at;
+        /* A sheet that is cut between two lines has lines that are missing. */
+        wanted = kind == CUT && (at == 0 || text[at - 1] == '\n') ? refusal(22, 1 + lines_of(text, at)) : refusal(21, at);
+    } else {
+        wanted = refusal(22, j + 1);
+        switch (kind) {
+        case MISSING: memmove(row + j, row + j + 1, (--count - j) * sizeof *row); break;
+        case SURPLUS:
+            row[count++] = row[j];
+            wanted = refusal(22, count);
+            break;
+        case NO_LITERAL: row[j].literal += 1024; break;
+        case NO_GROUP: row[j].group += 65; break;
+        case NO_FACT: row[j].group = !row[j].group; break; /* a fact has no group 1, and a rule with groups is no fact */
+        case OTHER_ATOM: row[j].head = (row[j].head + 2) % 1024; break;
+        case ABOVE_1023: row[j].rank = 1024 + (unsigned)below(8976); break;
+        default:
+            row[j] = lines[k];
+            row[k] = lines[j];
+            wanted = refusal(22, (j < k ? j : k) + 1);
+        }
+        len = put_reasons(text, row, count);
+    }
+    forged++;
+    answer = check_sheet(n, table, table_len, other, values_len, text, len);
+    /* An earlier line may rest on one whose rank was raised. */
+    if (kind == ABOVE_1023) check(answer > refusal(22, 0) && answer <= wanted, "a rank above 1,023 is taken, or another line refused");
+    else check(answer == wanted, "another answer of the check");
+}
+
+/* The reason sheet of a table, by the answer of an evaluation which had room: the same refusal of both calls; or a sheet with a line for
+ * each literal of the values, in a room as large as was told, and no other in a larger one, none in one a byte short; and accepted. */
+static void check_reasons(uint64_t n, const uint8_t *table, size_t table_len, uint64_t evaluated) {
+    static uint8_t values[SIMMERKNOT_MOST_ATOMS], first[SIMMERKNOT_REASON_SHEET_BYTES];
+    const uint64_t needed = write_reasons(n, table, table_len, 0);
+    size_t len, i;
+    if (simmerknot_refused(evaluated)) {
+        if (simmerknot_number(evaluated) == 19) return;
+        check(needed == evaluated, "another refusal of the writer of reasons");
+        check(write_reasons(n, table, table_len, 40) == evaluated, "another refusal, where there is room");
+        i = n <= sizeof values ? (size_t)n : 1;
+        check(check_sheet(n, table, table_len, values, i, reasoned, below(9)) == evaluated, "another refusal of the check");
+        return;
+    }
+    check(needed == 0 || simmerknot_number(needed) == 15, "an accepted table has no reason sheet");
+    len = simmerknot_place(needed);
+    check(write_reasons(n, table, table_len, len) == len, "the room that was told is refused");
+    memcpy(first, reasoned, len);
+    read_reasons();
+    check_literals(n);
+    if (len) check(write_reasons(n, table, table_len, len - 1) == needed, "a room one byte short is taken, or another length is told");
+    check(write_reasons(n, table, table_len, len + 1 + below(40)) == len, "another length in a larger room");
+    check(memcmp(first, reasoned, len) == 0, "another sheet in a larger room");
+    for (i = 0; i < n; i++) values[i] = (uint8_t)simmerknot_value_of_letter((uint8_t)valued[i]);
+    check(check_sheet(n, table, table_len, values, (size_t)n, reasoned, reasoned_len) == 0, "our own sheet is refused");
+    forge(n, table, table_len, values);
+    forge(n, table, table_len, values);
+    written++;
+}
+
 /* Values are letters, one for each atom; NULL where any will do. */
 static uint64_t evaluate_once(uint64_t n, const uint8_t *table, size_t table_len, size_t room, const char *values) {
     struct lent t = lend_to_read(table, table_len), v = lend_filled(room);
@@ -289,23 +486,28 @@ static uint64_t evaluate_once(uint64_t n, const uint8_t *table, size_t table_len
     take_back(t);
     take_back(v);
     if (simmerknot_number(answer) == 3) evaluate_once(n, table, table_len, (size_t)n, NULL);
-    else check_conflict(n, table, table_len, answer);
+    else {
+        check_conflict(n, table, table_len, answer);
+        check_reasons(n, table, table_len, answer);
+    }
     return answer;
 }
 
-/* An accepted table with other lines, all 0, all 32,768 or any: the same answer and values; with one above 32,768: 6 there. */
+/* An accepted table with other lines, all 0, all 32,768 or any: the same answer, values and reasons; with one above 32,768: 6 there. */
 static void check_lines(uint64_t n, const uint8_t *table, size_t len, size_t room) {
     static struct record records[MOST_RECORDS];
-    static uint8_t other[16384];
+    static uint8_t other[16384], reasons[SIMMERKNOT_REASON_SHEET_BYTES];
     char values[513];
-    const size_t found = records_in(table, len, records), kind = below(3);
+    const size_t found = records_in(table, len, records), kind = below(3), reasons_len = reasoned_len;
     size_t i, at;
     if (found == 0) return;
+    memcpy(reasons, reasoned, reasons_len);
     check(len <= sizeof other && records[found - 1].end == len / 2, "an accepted table that is not records");
     strcpy(values, valued);
     memcpy(other, table, len);
     for (i = 0; i < found; i++) put_word(other, records[i].start + 1, kind == 0 ? 0 : kind == 1 ? 32768 : below(32769));
     check(evaluate_once(n, other, len, room, values) == 0, "another answer where only lines differ");
+    check(reasoned_len == reasons_len && memcmp(reasoned, reasons, reasons_len) == 0, "another reason sheet where only lines differ");
     at = records[below(found)].start + 1;
     put_word(other, at, 32769 + below(65536 - 32769));
     check(evaluate_once(n, other, len, room, NULL) == refusal(6, at), "a line above 32,768 is not refused, or elsewhere");
@@ -444,13 +646,121 @@ static void full_tables(void) {
     check(evaluate(512, bytes, len, 512, values) == 0, "another answer");
 }
 
-/* simmerknot_sheet. */
+struct reason_case {
+    const char *what;
+    uint64_t n;
+    uint16_t words[16];
+    size_t count, surplus;
+    const char *values; /* letters; "?" is 4 */
+    const char *text;
+    uint64_t number, place;
+};
 
-static size_t lines_of(const uint8_t *sheet, size_t len) {
-    size_t i, lines = 0;
-    for (i = 0; i < len; i++) lines += sheet[i] == '\n';
-    return lines;
+#define B_B 1, {1, 1, 1, 1, 0}, 5, 0
+#define FACTS_A_B 2, {0, 1, 0, 2, 2, 0}, 6, 0
+#define A_OF_TWO 2, {2, 1, 0, 0, 2, 2, 1, 2, 1, 2}, 10, 0
+#define NO_A_OF_A 1, {0, 1, 0, 1, 2, 1, 1, 0}, 8, 0
+static const struct reason_case reason_cases[] = {
+    {"no rules, N 0", 0, {0}, 0, 0, "", "", 0, 0},
+    {"no rules, N 2", 2, {0}, 0, 0, "uu", "", 0, 0},
+    {"values past N are not read", 1, {0, 1, 0}, 3, 0, "t???", "0\t0\t0\t0\n", 0, 0},
+    {"facts", FACTS_A_B, "tt", "0\t7\t0\t0\n2\t7\t2\t0\n", 0, 0},
+    {"a negation", 1, {1, 1, 0}, 3, 0, "f", "1\t1023\t1\t0\n", 0, 0},
+    {"two groups alike, the second named", A_OF_TWO, "tt", "0\t1\t0\t2\n2\t0\t2\t0\n", 0, 0},
+    {"-b: b, both by its rule", B_B, "i", "0\t0\t1\t1\n1\t1\t1\t1\n", 0, 0},
+    {"a by its fact, -a by a", NO_A_OF_A, "i", "0\t0\t0\t0\n1\t1\t1\t1\n", 0, 0},
+    {"a leading zero", 0, {0}, 0, 0, "", "00\t0\t0\t0\n", 21, 1},
+    {"a fifth digit", 0, {0}, 0, 0, "", "0\t10000\t0\t0\n", 21, 6},
+    {"byte 10 alone", 0, {0}, 0, 0, "", "\n", 21, 0},
+    {"a tab alone", 0, {0}, 0, 0, "", "\t", 21, 0},
+    {"three numbers", 0, {0}, 0, 0, "", "0\t0\t0\n", 21, 5},
+    {"five numbers", 0, {0}, 0, 0, "", "0\t0\t0\t0\t0\n", 21, 7},
+    {"no number", 0, {0}, 0, 0, "", "0\t\t0\t0\n", 21, 2},
+    {"a second line cut short", 0, {0}, 0, 0, "", "0\t0\t0\t0\n0", 21, 9},
+    {"N above 512", 513, {0, 1}, 2, 0, "", "x", 1, 0},
+    {"fewer values than N", 2, {9}, 1, 0, "t", "x", 3, 0},
+    {"a faulty word", 1, {2, 0, 0}, 3, 0, "?", "x", 5, 0},
+    {"a lone byte and no value code", 1, {0, 1, 0}, 3, 1, "?", "x", 4, 3},
+    {"no value code and a broken text", FACTS_A_B, "t?", "x", 20, 1},
+    {"a broken text and no model", FACTS_A_B, "tu", "0\t0\t0\t0\n ", 21, 8},
+    {"no model and a line missing", FACTS_A_B, "tu", "", 34, 3},
+    {"-b: b, and b is t", B_B, "t", "0\t0\t0\t0\n", 34, 0},
+    {"out of order", FACTS_A_B, "tt", "2\t0\t2\t0\n0\t0\t0\t0\n", 22, 1},
+    {"missing before not justified", FACTS_A_B, "tt", "0\t0\t0\t5\n", 22, 2},
+    {"all missing", FACTS_A_B, "tt", "", 22, 1},
+    {"surplus before not justified", FACTS_A_B, "tt", "0\t0\t0\t5\n2\t0\t2\t0\n3\t0\t2\t0\n", 22, 3},
+    {"a code not below 2N", 1, {0, 1, 0}, 3, 0, "t", "9999\t0\t0\t0\n", 22, 1},
+    {"a group above 64", 1, {0, 1, 0}, 3, 0, "t", "0\t0\t0\t9999\n", 22, 1},
+    {"rank 1,024", 1, {0, 1, 0}, 3, 0, "t", "0\t1024\t0\t0\n", 22, 1},
+    {"rank 1,024 counts as a number elsewhere", B_B, "i", "0\t1023\t1\t1\n1\t1024\t1\t1\n", 22, 2},
+    {"group 0 of a rule with groups", A_OF_TWO, "tt", "0\t1\t0\t0\n2\t0\t2\t0\n", 22, 1},
+    {"a third group of two", A_OF_TWO, "tt", "0\t1\t0\t3\n2\t0\t2\t0\n", 22, 1},
+    {"equal ranks", A_OF_TWO, "tt", "0\t0\t0\t1\n2\t0\t2\t0\n", 22, 1},
+    {"a larger rank", A_OF_TWO, "tt", "0\t0\t0\t1\n2\t9\t2\t0\n", 22, 1},
+    {"measured at the head of the rule", B_B, "i", "0\t1\t1\t1\n1\t1\t1\t1\n", 22, 1},
+    {"a head without a rule", B_B, "i", "0\t0\t0\t1\n1\t1\t1\t1\n", 22, 1},
+    {"a fact of the negation", NO_A_OF_A, "i", "0\t0\t0\t0\n1\t0\t0\t0\n", 22, 2},
+    {"a group that is u", 2, {0, 1, 2, 1, 2, 1, 0}, 7, 0, "tu", "0\t0\t0\t1\n", 22, 1},
+};
+
+static void written_reasons(void) {
+    uint8_t bytes[34], values[8];
+    size_t i, k;
+    for (i = 0; i < sizeof reason_cases / sizeof *reason_cases; i++) {
+        const struct reason_case *c = &reason_cases[i];
+        const size_t len = put_words(bytes, c->words, c->count) + c->surplus, values_len = strlen(c->values);
+        if (c->surplus) bytes[len - 1] = 7;
+        for (k = 0; k < values_len; k++) values[k] = (uint8_t)simmerknot_value_of_letter((uint8_t)c->values[k]);
+        what = c->what;
+        check(check_sheet(c->n, bytes, len, values, values_len, (const uint8_t *)c->text, strlen(c->text)) == refusal(c->number, c->place),
+              "another answer");
+    }
 }
+
+/* Both literals of 512 atoms are facts: 1,024 lines, of which the last may have any rank; and one more. */
+static void full_reasons(void) {
+    static uint8_t table[6 * MOST_LINES + 2], values[SIMMERKNOT_MOST_ATOMS], text[SIMMERKNOT_REASON_SHEET_BYTES + 99];
+    static struct reason row[MOST_LINES + 1];
+    size_t i, len;
+    what = "1,024 lines";
+    memset(values, SIMMERKNOT_I, sizeof values);
+    for (i = 0; i <= MOST_LINES; i++) {
+        const struct reason line = {(unsigned)i, i < 1000 ? 0 : 1023, (unsigned)i, 0};
+        row[i] = line;
+        if (i < MOST_LINES) put_word(table, 3 * i, i);
+    }
+    len = put_reasons(text, row, MOST_LINES);
+    check(check_sheet(512, table, 6 * MOST_LINES, values, 512, text, len) == 0, "another answer");
+    check(check_sheet(512, table, 6 * MOST_LINES, values, 512, text, len - 1) == refusal(21, len - 1), "another answer");
+    check(check_sheet(512, table, 6 * MOST_LINES + 1, values, 512, text, len) == refusal(4, 3 * MOST_LINES), "another answer");
+    what = "1,025 lines";
+    len = put_reasons(text, row, MOST_LINES + 1);
+    check(check_sheet(512, table, 6 * MOST_LINES, values, 512, text, len) == refusal(22, MOST_LINES + 1), "another answer");
+}
+
+/* A reason sheet above 4 GiB, whose lines are one file's, mapped again and again: the whole text is read, and a place that 32 bits do not
+ * hold is their largest number. */
+static void long_text(void) {
+    static const char line[] = "0\t0\t0\t0\n";
+    const size_t part = (size_t)1 << 21, parts = ((size_t)1 << 32) / part + 1;
+    FILE *file = tmpfile();
+    uint8_t *text, *at;
+    size_t i;
+    what = "a text above 4 GiB";
+    check(file != NULL, "no file");
+    for (i = 0; i < part; i += sizeof line - 1) check(fwrite(line, 1, sizeof line - 1, file) == sizeof line - 1, "no file");
+    check(fflush(file) == 0, "no file");
+    text = mmap(NULL, parts * part, PROT_NONE, MAP_PRIVATE | MAP_ANONYMOUS | MAP_NORESERVE, -1, 0);
+    check(text != MAP_FAILED, "no addresses");
+    for (i = 0, at = text; i < parts; i++, at += part) {
+        check(mmap(at, part, PROT_READ, MAP_SHARED | MAP_FIXED, fileno(file), 0) == at, "no addresses");
+    }
+    check(simmerknot_check_reasons(0, NULL, 0, NULL, 0, text, ((size_t)1 << 32) + 1) == refusal(21, UINT32_MAX), "another answer");
+    calls++;
+    fclose(file);
+}
+
+/* simmerknot_sheet. */
 
 /* The length of the literal, or of the line's name, that starts there. */
 static size_t part_len(const uint8_t *text, size_t at, size_t len) {
@@ -730,12 +1040,19 @@ static void nulls(void) {
     check(simmerknot_evaluate(0, (const uint8_t *)"\0\0\0", 2, NULL, 0) == refusal(5, 0), "no room");
     check(simmerknot_conflict(0, NULL, 0) == 0 && simmerknot_conflict(512, NULL, 0) == 0, "no conflict in no table");
     check(simmerknot_conflict(513, NULL, 0) == refusal(1, 0), "N above 512, and no table");
+    check(simmerknot_reasons(0, NULL, 0, NULL, 0) == 0 && simmerknot_reasons(512, NULL, 0, NULL, 0) == 0, "no reasons");
+    check(simmerknot_reasons(513, NULL, 0, NULL, 0) == refusal(1, 0), "N above 512, and no reasons");
+    check(simmerknot_reasons(1, (const uint8_t *)"\0\0\0\0\0", 6, NULL, 0) == refusal(15, 8), "no room for a reason");
+    check(simmerknot_check_reasons(0, NULL, 0, NULL, 0, NULL, 0) == 0, "nothing to check");
+    check(simmerknot_check_reasons(1, NULL, 0, NULL, 0, NULL, 0) == refusal(3, 0), "no values");
+    check(simmerknot_check_reasons(1, NULL, 0, &one, 1, NULL, 0) == 0, "one value, u");
+    check(simmerknot_check_reasons(1, (const uint8_t *)"\0\0\0\0\0", 6, (const uint8_t *)"\3", 1, NULL, 0) == refusal(22, 1), "no text");
     check(simmerknot_sheet(NULL, 0, NULL, 0, NULL, 0, NULL, 0) == refusal(9, 0), "nothing at all");
     check(simmerknot_sheet(NULL, 0, words, 16384, NULL, 0, NULL, 0) == refusal(9, 0), "no name buffer");
     check(simmerknot_sheet(NULL, 0, NULL, 0, names, 2048, NULL, 0) == refusal(9, 0), "no word buffer");
     check(simmerknot_sheet(NULL, 0, words, 16384, names, 2048, NULL, 0) == 0, "the empty sheet");
     check(simmerknot_sheet((const uint8_t *)"p\n", 2, words, 16384, names, 2048, NULL, 0) == refusal(15, 4), "no text room");
-    calls += 12;
+    calls += 20;
     check(simmerknot_words_used(NULL, 0) == 0 && simmerknot_line_of(NULL, 0, 0) == 0, "no words");
     free(words);
     free(names);
@@ -808,6 +1125,7 @@ static void random_rules(unsigned long count) {
         check(read_sheet((uint8_t *)sheet, len, 16384, 2048, room) == (room < needed ? refusal(15, needed) : needed), "another answer");
     }
     check(10 * conflicts >= all && quiet >= all && not_asked >= all, "tables with a conflict, without one or refused are rare");
+    check(written >= all && forged >= all, "reason sheets, written and forged, are rare");
     check(2 * with_others >= all, "names that stand only in bodies are rare");
     check(10 * without_room >= all, "rooms that are too small are rare");
 }
@@ -820,9 +1138,16 @@ int main(int argc, char **argv) {
                 : strcmp(argv[1], "before") == 0    ? BEFORE
                                                     : AFTER;
     count = strtoul(argv[2], NULL, 10);
+    if (strcmp(argv[1], "long") == 0) {
+        long_text();
+        printf("%lu\n", calls);
+        return 0;
+    }
     nulls();
     written_tables();
     full_tables();
+    written_reasons();
+    full_reasons();
     written_sheets();
     long_sheets();
     any_words(count);

@@ -1,4 +1,5 @@
-/* The header's own promises, as C99 and as C++11: limits, the list of refusals, answers taken apart, values, words, conflict, version. */
+/* The header's own promises, as C99 and as C++11: limits, the list of refusals, answers taken apart, values, words, conflict, reasons,
+ * version. */
 #include <simmerknot.h>
 #include <stdio.h>
 #include <stdlib.h>
@@ -30,26 +31,33 @@ static void limits(void) {
     check(SIMMERKNOT_MOST_GROUPS == 64, "64 groups");
     check(SIMMERKNOT_MOST_LITERALS == 64, "64 literals");
     check(SIMMERKNOT_MOST_LINE == 32768, "line 32,768");
+    check(SIMMERKNOT_MOST_RANK == 1023, "rank 1,023");
     check(SIMMERKNOT_MOST_SHEET_BYTES == 65536, "65,536 bytes");
     check(SIMMERKNOT_MOST_NAME_BYTES == 24, "24 bytes");
     check(SIMMERKNOT_WORD_BUFFER_BYTES == 16384, "a word is two bytes");
     check(SIMMERKNOT_NAME_BUFFER_BYTES == 2048, "a name entry is four bytes");
     check(SIMMERKNOT_VALUE_SHEET_BYTES == 13824, "512 lines of 27 bytes");
+    check(SIMMERKNOT_REASON_SHEET_BYTES == 18432, "1,024 lines of 18 bytes");
 }
+
+/* Numbers of document 01 and, from 21 on, of document 02. */
+static uint32_t number_in_row(uint32_t i) { return i < 22 ? i + 1 : 34; }
 
 static void refusals(void) {
     uint32_t i, j;
-    check(ROWS > 0 && (int)SIMMERKNOT_LAST_REFUSAL == (int)ROWS, "the last number is the list's length");
+    check(ROWS == 23 && (int)SIMMERKNOT_LAST_REFUSAL == (int)rows[ROWS - 1].number, "the last number is the list's last");
     for (i = 0; i < ROWS; i++) {
-        check(rows[i].number == i + 1, "numbers in order");
-        check(rows[i].constant == (int)(i + 1), "a constant is its number");
-        check(strcmp(simmerknot_refusal_name(i + 1), rows[i].name) == 0, "the name of a number");
-        check(strcmp(simmerknot_refusal_text(i + 1), rows[i].text) == 0, "the text of a number");
+        const uint32_t number = number_in_row(i);
+        check(rows[i].number == number, "numbers in order");
+        check(rows[i].constant == (int)number, "a constant is its number");
+        check(strcmp(simmerknot_refusal_name(number), rows[i].name) == 0, "the name of a number");
+        check(strcmp(simmerknot_refusal_text(number), rows[i].text) == 0, "the text of a number");
         check(strlen(rows[i].text) > 9 && !strchr(rows[i].text, '\n'), "a text is one line");
         for (j = 0; j < i; j++) check(strcmp(rows[i].text, rows[j].text) != 0, "no text stands twice");
     }
     check(*simmerknot_refusal_name(0) == 0 && *simmerknot_refusal_text(0) == 0, "0 is no refusal");
-    check(*simmerknot_refusal_name(21) == 0 && *simmerknot_refusal_text(21) == 0, "21 is not in the list");
+    for (i = 23; i < 34; i++) check(*simmerknot_refusal_name(i) == 0 && *simmerknot_refusal_text(i) == 0, "23 to 33 are not in the list");
+    check(*simmerknot_refusal_name(35) == 0 && *simmerknot_refusal_text(35) == 0, "35 is not in the list");
     check(*simmerknot_refusal_name(0xffffffffu) == 0 && *simmerknot_refusal_text(0xffffffffu) == 0, "the largest number");
 }
 
@@ -189,6 +197,35 @@ static void conflict(void) {
     check(simmerknot_number(above) == SIMMERKNOT_TOO_MANY_ATOMS && simmerknot_place(above) == 0, "N above 512");
 }
 
+/* p and -p as facts, and a sheet for them: the only one but for its ranks. */
+static void reasons(void) {
+    static const uint8_t both[] = {0, 0, 1, 0, 0, 0, 1, 0, 2, 0, 0, 0}, value[] = {SIMMERKNOT_I}, wrong[] = {SIMMERKNOT_T};
+    static const char good[] = "0\t1023\t0\t0\n1\t0\t1\t0\n", other[] = "0\t0\t1\t0\n1\t0\t1\t0\n";
+    static uint8_t room[SIMMERKNOT_REASON_SHEET_BYTES];
+    uint64_t (*const write)(uint64_t, const uint8_t *, size_t, uint8_t *, size_t) = simmerknot_reasons;
+    uint64_t (*const look)(uint64_t, const uint8_t *, size_t, const uint8_t *, size_t, const uint8_t *, size_t) =
+        simmerknot_check_reasons;
+    const uint8_t *text = (const uint8_t *)good;
+    const size_t len = sizeof good - 1;
+    const uint64_t needed = write(1, both, sizeof both, NULL, 0), written = write(1, both, sizeof both, room, sizeof room);
+    check(simmerknot_number(needed) == SIMMERKNOT_TEXT_ROOM_TOO_SMALL, "no room");
+    check(!simmerknot_refused(written) && written == simmerknot_place(needed), "as much as was told");
+    check(look(1, both, sizeof both, value, 1, room, (size_t)written) == 0, "what is written is accepted");
+    check(write(1, both, sizeof both, room, (size_t)written) == written, "in a room of just that");
+    check(write(0, NULL, 0, NULL, 0) == 0 && write(512, NULL, 0, NULL, 0) == 0, "the empty sheet of no table");
+    check(simmerknot_number(write(513, both, sizeof both, room, sizeof room)) == SIMMERKNOT_TOO_MANY_ATOMS, "N above 512");
+    check(simmerknot_number(write(1, both, 7, room, sizeof room)) == SIMMERKNOT_CUT_SHORT, "a lone byte");
+    check(look(1, both, sizeof both, value, 1, text, len) == 0, "what somebody wrote");
+    check(look(0, NULL, 0, NULL, 0, NULL, 0) == 0, "nothing of nothing");
+    check(look(1, both, sizeof both, NULL, 0, text, len) == (uint64_t)SIMMERKNOT_VALUE_ROOM_TOO_SMALL << 32, "no values");
+    check(look(1, both, sizeof both, wrong, 1, text, len) == ((uint64_t)SIMMERKNOT_NOT_A_MODEL << 32) + 3, "-p is a fact");
+    check(look(1, both, sizeof both, (const uint8_t *)"\4", 1, text, len) == (uint64_t)SIMMERKNOT_NOT_A_TRUTH_CODE << 32, "code 4");
+    check(look(1, both, sizeof both, value, 1, text, len - 1) == ((uint64_t)SIMMERKNOT_TEXT_BROKEN << 32) + len - 1, "a text cut short");
+    check(look(1, both, sizeof both, value, 1, text, 11) == ((uint64_t)SIMMERKNOT_LINE_NOT_JUSTIFIED << 32) + 2, "one line of two");
+    check(look(1, both, sizeof both, value, 1, (const uint8_t *)other, sizeof other - 1) ==
+              ((uint64_t)SIMMERKNOT_LINE_NOT_JUSTIFIED << 32) + 1, "a fact of the negation");
+}
+
 static void version(void) {
     char text[40];
     snprintf(text, sizeof text, "%d.%d.%d", SIMMERKNOT_VERSION_MAJOR, SIMMERKNOT_VERSION_MINOR, SIMMERKNOT_VERSION_PATCH);
@@ -206,6 +243,7 @@ int main(void) {
     words_made_by_hand();
     words_of_a_full_sheet();
     conflict();
+    reasons();
     version();
     printf("%d checks\n", passed);
     return 0;

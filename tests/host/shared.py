@@ -7,8 +7,10 @@ size, number, pointer = ctypes.c_size_t, ctypes.c_uint64, ctypes.c_char_p
 library.simmerknot_version.argtypes = []
 library.simmerknot_evaluate.argtypes = [number, pointer, size, pointer, size]
 library.simmerknot_conflict.argtypes = [number, pointer, size]
+library.simmerknot_reasons.argtypes = [number, pointer, size, pointer, size]
+library.simmerknot_check_reasons.argtypes = [number, pointer, size, pointer, size, pointer, size]
 library.simmerknot_sheet.argtypes = [pointer, size, pointer, size, pointer, size, pointer, size]
-for call in ("version", "evaluate", "conflict", "sheet"):
+for call in ("version", "evaluate", "conflict", "reasons", "check_reasons", "sheet"):
     getattr(library, f"simmerknot_{call}").restype = number
 
 calls = 0
@@ -34,6 +36,17 @@ def evaluate(n, words, room):
 def conflict(n, words):
     table = table_of(words)
     return library.simmerknot_conflict(n, table, len(table))
+
+
+def reasons(n, words, room):
+    table = table_of(words)
+    text = ctypes.create_string_buffer(b"\7" * room, room)
+    return library.simmerknot_reasons(n, table, len(table), text, room), text.raw
+
+
+def check_reasons(n, words, values, text):
+    table = table_of(words)
+    return library.simmerknot_check_reasons(n, table, len(table), values, len(values), text, len(text))
 
 
 def read(sheet, room):
@@ -67,7 +80,19 @@ same("none in p, q", conflict(3, [0, 1, 0, 2, 3, 0]), 0)
 same("none in -b: b", conflict(1, [1, 1, 1, 1, 0]), 0)
 same("a conflict not asked of a second rule", conflict(1, [0, 0, 0, 0, 0, 0]), (7 << 32) + 3)
 same("a conflict not asked of a lone byte", library.simmerknot_conflict(1, b"\0\0\0\0\0\0\1", 7), (4 << 32) + 3)
+same("a reason", reasons(1, [1, 1, 0], 9), (8, b"1\t0\t1\t0\n\7"))
+same("no room for a reason", reasons(1, [1, 1, 0], 7), ((15 << 32) + 8, b"\7" * 7))
+same("a reason of a second rule", reasons(1, [0, 0, 0, 0, 0, 0], 9), ((7 << 32) + 3, b"\7" * 9))
+same("accepted", check_reasons(1, [1, 1, 0], b"\0\7", b"1\t1023\t1\t0\n"), 0)
+same("-b: b, i", check_reasons(1, [1, 1, 1, 1, 0], b"\2", b"0\t0\t1\t1\n1\t1\t1\t1\n"), 0)
+same("rank 1,024", check_reasons(1, [1, 1, 0], b"\0", b"1\t1024\t1\t0\n"), (22 << 32) + 1)
+same("no byte 10", check_reasons(1, [1, 1, 0], b"\0", b"1\t1\t1\t0"), (21 << 32) + 7)
+same("no model", check_reasons(2, [0, 1, 0, 2, 2, 0], b"\3\1", b""), (34 << 32) + 3)
+same("code 4", check_reasons(2, [], b"\1\4", b""), (20 << 32) + 1)
+same("no values", check_reasons(1, [], b"", b""), 3 << 32)
 same("null pointers", library.simmerknot_conflict(512, None, 0), 0)
+same("null pointers", library.simmerknot_reasons(512, None, 0, None, 0), 0)
+same("null pointers", library.simmerknot_check_reasons(0, None, 0, None, 0, None, 0), 0)
 same("null pointers", library.simmerknot_evaluate(0, None, 0, None, 0), 0)
 same("null pointers", library.simmerknot_sheet(None, 0, None, 0, None, 0, None, 0), 9 << 32)
 season, values = (open(f"examples/season.{kind}", "rb").read() for kind in ("sheet", "values"))
