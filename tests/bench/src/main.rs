@@ -1,5 +1,6 @@
 //! Evaluation's speed beside the second implementation and the yardsticks, plain rereading by the same method, and counters; then
-//! the question of conflict's beside evaluation (`conflict`), and reading's (`reading`).
+//! the question of conflict's beside evaluation (`conflict`), the writer's and the check's of reason sheets (`reasons`), and reading's
+//! (`reading`).
 //!
 //! From tests/, after `rt staticlib probe` and `rt staticlib simmerknot`: `cargo run --release -p bench`. Both sides are
 //! in this binary. The four take turns, one evaluation each, for 2 seconds a table or 401 turns, and 11 turns at least; the
@@ -8,6 +9,7 @@
 
 mod conflict;
 mod reading;
+mod reasons;
 mod turns;
 mod yardstick;
 
@@ -67,5 +69,6 @@ fn main() {
         );
     }
     conflict::print();
+    reasons::print();
     reading::print();
 }
