@@ -55,9 +55,8 @@ use Rattle.evaluation.proofs.Evaluated as evaluated
 use Rattle.evaluation.proofs.Laws.{evaluation-determined}
 use Rattle.evaluation.proofs.OnlyLines.{evaluation-alike}
 use Rattle.values.specs.Given.{given}
-use Rattle.valued.specs.Valued.{Codes}
 use Rattle.reasontext.specs.ReasonSheet.{ReasonLine, IsReasonText}
-use Rattle.reasoncheck.specs.ReasonCheck.{SmallerRank, CheckAllows}
+use Rattle.reasoncheck.specs.ReasonCheck.{checkFault, SmallerRank, CheckAllows}
 use Rattle.reasoncheck.proofs.Determined.{check-determined as reason-check-determined}
 use Rattle.reasoncheck.proofs.Checks.{sound-check}
 use Rattle.reasoncheck.proofs.WellSupported.{accepted→well-supported, well-supported→accepted}
@@ -707,9 +706,13 @@ own-sheet-is-accepted N t room values-room {k} {room′} {values} o e c =
     reason-check-determined N t values (take k room′) c (own-sheet-accepted N t room values-room o refl e)
 
 -- (b) for every N, accepted table and value codes: what they give is well-supported, with an order of any kind, exactly if some text is accepted
-module _ (N : ℕ) (t values : List ℕ) (accepted : AcceptedTable N t) (codes : Codes N values) where
+module _ (N : ℕ) (t values : List ℕ) (accepted : AcceptedTable N t) (enough : N ≤ length values)
+    (codes : (a : ℕ) → a < N → getD values a 0 ≤ 3) where
+  fine : checkFault N t values ≡ Accepted
+  fine = sound-check N t values accepted (record { enough = enough; at-most-3 = codes })
+
   pub well-supported-has-a-sheet : WellSupported (rulesOf t) (given N values) → (text : List ℕ) × CheckAllows N t values text Checked.Accepted
-  well-supported-has-a-sheet w = let q = well-supported→accepted N t values (sound-check N t values accepted codes) w in (q .0, q .2)
+  well-supported-has-a-sheet w = let q = well-supported→accepted N t values fine w in (q .0, q .2)
 
   pub a-sheet-makes-well-supported : ((text : List ℕ) × CheckAllows N t values text Checked.Accepted) → WellSupported (rulesOf t) (given N values)
   a-sheet-makes-well-supported q =
@@ -719,7 +722,7 @@ module _ (N : ℕ) (t values : List ℕ) (accepted : AcceptedTable N t) (codes :
   pub a-short-sheet-is-enough : (text : List ℕ) → CheckAllows N t values text Checked.Accepted
       → (short : List ℕ) × (length short ≤ mostReasonBytes) × CheckAllows N t values short Checked.Accepted
   a-short-sheet-is-enough text o =
-      well-supported→accepted N t values (sound-check N t values accepted codes) (a-sheet-makes-well-supported (text, o))
+      well-supported→accepted N t values fine (a-sheet-makes-well-supported (text, o))
 
 -- the writer's own sheet has no more
 pub own-sheet-is-short : (N : ℕ) (t room : List ℕ) {k : ℕ} {room′ : List ℕ} → ReasonsAllows N t room (Number k) room′ → k ≤ mostReasonBytes
