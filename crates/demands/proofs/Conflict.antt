@@ -2,9 +2,9 @@
 use mathlib.Core.Bool.{Bool, true, false}
 use mathlib.Core.List.{List}
 use mathlib.Core.Logic.{_↔_, Iff·trans}
-use mathlib.Core.Path.{_≡_, refl, sym, ap, _∙_, fun-ext, subst}
+use mathlib.Core.Path.{_≡_, refl, sym, ap, _∙_, fun-ext}
 use Prim.Native.Nat.{ℕ, _<_}
-use lib.Dec.{T, leb}
+use lib.Dec.{leb}
 use lib.ListN.{length, getD}
 use borrow.Author.Tests.{leb-true}
 use Rattle.refusal.specs.declared.Refusal.{Refusal}
@@ -26,7 +26,7 @@ use Rattle.paper.proofs.Order.{can-be-marked-below}
 use Rattle.paper.proofs.Conflict.{conflict→can, settled↔no-conflict, conflict→inconsistent, inconsistent→conflict}
 use Rattle.bits.proofs.Laws.{member-of-zeros}
 use Rattle.records.specs.Records.{recordFault, marksOf, noMarksFor}
-use Rattle.records.proofs.Laws.{good-record}
+use Rattle.records.proofs.Laws.{fresh-good}
 use Rattle.values.specs.Values.{written}
 use Rattle.values.proofs.Written.{written-at}
 use Rattle.picks.specs.Faults.{settledFault}
@@ -94,8 +94,7 @@ fresh-fault N t = go (leb N 512) refl
   where
     go : (b : Bool) → leb N 512 ≡ b → orElse (recordFault (noMarksFor N)) (tableCheck N t) ≡ tableCheck N t
     go true e =
-        ap (λ (c : Checked). orElse c (tableCheck N t))
-        (good-record (noMarksFor N) (leb-true N 512 e) (λ a lt m. absurd (subst T (member-of-zeros 8 a) m)))
+        ap (λ (c : Checked). orElse c (tableCheck N t)) (fresh-good N (leb-true N 512 e))
     go false e = fresh-above N t e
 
 -- and is settled exactly if there is no conflict, so that each answer tells the other

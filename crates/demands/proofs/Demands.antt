@@ -9,12 +9,12 @@ use lib.Dec.{T, leb}
 use lib.ListN.{length, getD, take, drop}
 use Rattle.limits.specs.Limits.{mostAtoms, mostLine, mostReasonBytes}
 use Rattle.refusal.specs.declared.Refusal.{Refusal}
-use Rattle.refusal.specs.Numbers.{too-many-atoms, not-settled, text-room-too-small, not-a-truth-code}
+use Rattle.refusal.specs.Numbers.{too-many-atoms, broken-record, not-settled, text-room-too-small, not-a-truth-code}
 use Rattle.paper.specs.Table1.{Value, 𝐢, 𝐭, code, _and_, _or_, not′, _implies_}
 use Rattle.paper.specs.Rules.{Rule, positive}
 use Rattle.sets.specs.Sets.{_∈_, _⊆_, count}
 use Rattle.paper.specs.Definitions.{Interpretation, value, bodyValue, Carries, Supports, WellSupportedBy, WellSupported, Smallest, SmallestWellSupported}
-use Rattle.paper.specs.Marking.{Marks, Marked, Unmarked, Held, Clean, CanBeMarked, Settled, IsHeld, Conflict, settledValue, inconsistent}
+use Rattle.paper.specs.Marking.{Marks, Marking, Marked, Unmarked, Held, Clean, CanBeMarked, Settled, IsHeld, Conflict, settledValue, inconsistent}
 use Rattle.paper.proofs.Theorems as paper
 use Rattle.paper.proofs.Theorems.{smallest-by-test, smallest-exists}
 use Rattle.paper.proofs.Settled.{clean→𝐭}
@@ -30,11 +30,10 @@ use Rattle.words.specs.Layout.{TableRecord, recordsOf, rulesIn, rulesOf, wordsO
 use Rattle.words.specs.OnlyLines.{OnlyLinesDiffer}
 use Rattle.words.proofs.Laws.{check-determined, accepted-one-rule, accepted-within, wordsOf-recordsOf}
 use Rattle.words.proofs.OnlyLines.{Alike, only-lines-alike}
-use Rattle.bits.specs.Sets.{putIn}
 use Rattle.least.specs.declared.WhichGroup.{WhichGroup}
 use Rattle.least.specs.Groups.{WhichAllows, OnlyGroup}
 use Rattle.least.proofs.Groups.{which-determined, which→supports, which→carries-𝐢, only→supports, only→carries}
-use Rattle.records.specs.Records.{recordFault, marksOf, noMarksFor, withMarks, FreshAllows, CountAllows}
+use Rattle.records.specs.Records.{recordFault, marksOf, noMarksFor, withMark, FreshAllows, CountAllows}
 use Rattle.picks.specs.Faults.{pickFault, settledFault, reportFault}
 use Rattle.records.specs.declared.MarkRecord.{MarkRecord}
 use Rattle.picks.specs.declared.PickAnswer.{PickAnswer}
@@ -45,6 +44,8 @@ use Rattle.values.specs.Values.{written}
 use Rattle.picks.specs.Traces.{Picks, PickPasses}
 use Rattle.records.proofs.Laws as records
 use Rattle.picks.proofs.Determined as picks
+use Rattle.picks.proofs.Counted as counted
+use Rattle.picks.proofs.Accepted as asked
 use Rattle.picks.proofs.Demand3 as rooms
 use Rattle.picks.proofs.OnlyLines.{pick-alike, settled-alike, report-alike}
 use Rattle.refusal.proofs.Questions.{question-determined, yes-exactly-if}
@@ -52,7 +53,7 @@ use Rattle.conflict.specs.Conflict.{ConflictAllows}
 use Rattle.conflict.proofs.OnlyLines.{conflict-alike}
 use Rattle.evaluation.specs.Evaluation.{evaluationFault, EvaluationAllows}
 use Rattle.evaluation.proofs.Evaluated as evaluated
-use Rattle.evaluation.proofs.Laws.{evaluation-determined}
+use Rattle.evaluation.proofs.Laws.{always-settles, evaluation-determined}
 use Rattle.evaluation.proofs.OnlyLines.{evaluation-alike}
 use Rattle.values.specs.Given.{given}
 use Rattle.reasontext.specs.ReasonSheet.{ReasonLine, IsReasonText}
@@ -146,7 +147,7 @@ implication-refused v w h e = e ∙ sym (⊎-elim (first-refused _implies_ v w) 
 pub check-allows-one : (N : ℕ) (t : List ℕ) (r r′ : Checked) → r ≡ tableCheck N t → r′ ≡ tableCheck N t → r ≡ r′
 check-allows-one = check-determined
 
--- fresh record: 1; a refused one has N 0 and no marks
+-- fresh record: 1; a refused one has N 0, no marks and count 0
 pub fresh-refused : (N : ℕ) {answer : Checked} {r : MarkRecord} → leb N 512 ≡ false
     → FreshAllows N answer r → (answer ≡ Checked.Refused too-many-atoms) × (r ≡ noMarksFor 0)
 fresh-refused N e o = records.fresh-determined N o (FreshAllows.refused e)
@@ -167,7 +168,7 @@ module _ (r : MarkRecord) (t : List ℕ) where
 
   pub pick-marks : (a : ℕ) {answer : PickAnswer} {r′ : MarkRecord} → pickFault r t a ≡ Accepted
       → CanBeMarked (rulesOf t) (marksOf r) a → PickAllows r t a answer r′
-      → (answer ≡ PickAnswer.Marked) × (r′ ≡ withMarks r (putIn (r .marks) a))
+      → (answer ≡ PickAnswer.Marked) × (r′ ≡ withMark r a)
   pick-marks a e c o = picks.pick-determined r t a o (PickAllows.marked e c)
 
   pub pick-finds-it-marked : (a : ℕ) {answer : PickAnswer} {r′ : MarkRecord}
@@ -214,7 +215,7 @@ module _ (r : MarkRecord) (t : List ℕ) where
       → (answer ≡ Checked.Accepted) × (room′ ≡ written (settledValue (marksOf r) H) (r .n) room)
   report-of-any-marks room e s H h o = picks.report-determined r t room o (ReportAllows.reported e s H h)
 
--- mark count: 1, 17; it alters nothing
+-- mark count: 1, 17; the stored number, which is that of the marks; it alters nothing
 pub count-determined : (r : MarkRecord) {x y : Numbered} → CountAllows r x → CountAllows r y → x ≡ y
 count-determined r o o′ = records.count-determined r o o′
 
@@ -223,8 +224,8 @@ pub count-refused : (r : MarkRecord) {f : Refusal} {answer : Numbered}
 count-refused r e o = records.count-determined r o (CountAllows.refused e)
 
 pub count-counts : (r : MarkRecord) {answer : Numbered} → recordFault r ≡ Accepted
-    → CountAllows r answer → answer ≡ Numbered.Number (count mostAtoms (marksOf r))
-count-counts r e o = records.count-determined r o (CountAllows.counted e)
+    → CountAllows r answer → (answer ≡ Numbered.Number (r .count)) × (r .count ≡ count mostAtoms (marksOf r))
+count-counts r e o = (records.count-determined r o (CountAllows.counted e), records.record-good r e .counted)
 
 -- the question of conflict: 1, 2, words; nothing is lent to be written
 pub conflict-determined : (N : ℕ) (t : List ℕ) {x y : Decided} → ConflictAllows N t x → ConflictAllows N t y → x ≡ y
@@ -242,7 +243,7 @@ pub conflict-no : (N : ℕ) (t : List ℕ) {answer : Decided} → AcceptedTable 
     → (Conflict (rulesOf t) → ⊥) → ConflictAllows N t answer → answer ≡ Decided.No
 conflict-no N t e n o = question-determined o (QuestionAllows.answers-no e n)
 
--- evaluation: 1, 2, 3, words (and never 19); a refusal alters nothing
+-- evaluation: 1, 2, 3, words; a refusal alters nothing
 pub evaluation-allows-one : (N : ℕ) (t room : List ℕ) {x y : Checked} {room′ room″ : List ℕ}
     → EvaluationAllows N t room x room′ → EvaluationAllows N t room y room″
     → (x ≡ y) × (room′ ≡ room″)
@@ -305,7 +306,7 @@ pub reader-ends : (s : List ℕ) (x : Reading) → x ≡ readingAt s (reached s 
 reader-ends s x e = subst⁻¹ NoLiteral e (reader.reader-ends s)
 
 module _ (s : List ℕ) (wordRoom nameRoom : ℕ) (text : List ℕ) where
-  -- the sheet entry: 8, 9, then the first literal with a fault (and never 19), last 15; a refusal leaves zeros in the buffers and the text as it was
+  -- the sheet entry: 8, 9, then the first literal with a fault, last 15; a refusal leaves zeros in the buffers and the text as it was
   pub sheet-allows-one : {x y : SheetAnswer} {ws ws′ ns ns′ text′ text″ : List ℕ} → SheetAllows s wordRoom nameRoom text x ws ns text′
       → SheetAllows s wordRoom nameRoom text y ws′ ns′ text″ → (x ≡ y) × (ws ≡ ws′) × (ns ≡ ns′) × (text′ ≡ text″)
   sheet-allows-one o o′ = sheet-determined s wordRoom nameRoom text o o′
@@ -751,3 +752,68 @@ module _ (N : ℕ) (b c : List ℕ) (accepted : AcceptedTable N (wordsIn b)) (ac
 
   pub host-check-without-lines : (M : ℕ) (values text : List ℕ) {x y : ℕ} → HostCheck M b values text x → HostCheck M c values text y → x ≡ y
   host-check-without-lines M = host-check-alike M b c (only-lines-alike N (wordsIn b) (wordsIn c) accepted accepted′ only) lone
+
+-- ---- Document 02, W6. The count on the live page: it stands in the record and is true after each operation.
+
+-- a fresh record, refused or not, counts none
+pub fresh-counts-none : (N : ℕ) {answer : Checked} {r : MarkRecord} → FreshAllows N answer r → (r .count ≡ 0) × (count mostAtoms (marksOf r) ≡ 0)
+fresh-counts-none N (FreshAllows.fresh e) = (refl, sym (records.none-counted N))
+fresh-counts-none N (FreshAllows.refused e) = (refl, sym (records.none-counted 0))
+
+-- whatever record and table a pick is lent, it counts one more exactly where it answers `marked`, and else leaves the record as it was ..
+pub count-follows-the-answer : {r r′ : MarkRecord} {t : List ℕ} {a : ℕ} {answer : PickAnswer} → PickAllows r t a answer r′
+    → ((answer ≡ PickAnswer.Marked) × (r′ .count ≡ r .count + 1)) ⊎ ((answer ≡ PickAnswer.Marked → ⊥) × (r′ ≡ r))
+count-follows-the-answer = counted.answer-tells-count
+
+-- .. so that a count that was the number of marks is so afterwards
+pub pick-keeps-the-count-true : {r r′ : MarkRecord} {t : List ℕ} {a : ℕ} {answer : PickAnswer}
+    → length (r .marks) ≡ 8 → r .count ≡ count mostAtoms (marksOf r) → PickAllows r t a answer r′ → r′ .count ≡ count mostAtoms (marksOf r′)
+pick-keeps-the-count-true eight is o = counted.pick-counted (record { eight = eight; true-count = is }) o .true-count
+
+-- a record with another count is refused by 17 wherever one is lent, before all but 1
+module _ (r : MarkRecord) (le : r .n ≤ mostAtoms) (wrong : r .count ≡ count mostAtoms (marksOf r) → ⊥) where
+  pub wrong-count-is-17-of-pick : (t : List ℕ) (a : ℕ) → pickFault r t a ≡ Refused broken-record
+  unfolding pickFault
+  wrong-count-is-17-of-pick t a = rw (records.wrong-count r le wrong)
+
+  pub wrong-count-is-17-of-settled : (t : List ℕ) → settledFault r t ≡ Refused broken-record
+  unfolding settledFault
+  wrong-count-is-17-of-settled t = rw (records.wrong-count r le wrong)
+
+  pub wrong-count-is-17-of-report : (t : List ℕ) (room : ℕ) → reportFault r t room ≡ Refused broken-record
+  unfolding reportFault
+  wrong-count-is-17-of-report t room = rw (records.wrong-count r le wrong)
+
+  pub wrong-count-is-17-of-count : {answer : Numbered} → CountAllows r answer → answer ≡ NoCode broken-record
+  wrong-count-is-17-of-count o = records.count-determined r o (CountAllows.refused (records.wrong-count r le wrong))
+
+-- after any list of picks from a fresh record, whatever the table, the stored count is the number of marks ..
+pub stored-count-is-the-marks : (N : ℕ) (t : List ℕ) {l : List ℕ} {r : MarkRecord} → Picks t (noMarksFor N) l r
+    → r .count ≡ count mostAtoms (marksOf r)
+stored-count-is-the-marks N t picked = counted.picks-counted (counted.fresh-counted N) picked .true-count
+
+module _ (N : ℕ) (t : List ℕ) (accepted : AcceptedTable N t) {l : List ℕ} {r : MarkRecord} (picked : Picks t (noMarksFor N) l r) where
+  -- .. and, when settled, that of the inconsistent atoms
+  pub stored-count-is-the-inconsistent : Settled (rulesOf t) (marksOf r) → (I : Interpretation) → SmallestWellSupported (rulesOf t) I
+      → r .count ≡ count mostAtoms (inconsistent I)
+  stored-count-is-the-inconsistent settled I smallest =
+      rooms.stored-after-picks N t accepted picked settled I (smallest-by-test (rulesOf t) (accepted-one-rule N t accepted) I .1 smallest)
+
+  -- picks are settled by the time N marks are counted
+  pub picks-settle-at-full-count : r .count ≡ N → Settled (rulesOf t) (marksOf r)
+  picks-settle-at-full-count = rooms.settled-when-all-counted N t accepted picked
+
+-- a record that the entries take and whose count is N is settled for every accepted table for N, and the settled question says so
+pub full-count-is-settled : (r : MarkRecord) → recordFault r ≡ Accepted → r .count ≡ r .n → (t : List ℕ) → AcceptedTable (r .n) t
+    → Settled (rulesOf t) (marksOf r)
+full-count-is-settled = counted.all-counted-settled
+
+pub settled-says-yes-at-full-count : (r : MarkRecord) (t : List ℕ) → settledFault r t ≡ Accepted → r .count ≡ r .n
+    → {answer : Decided} → SettledAllows r t answer → answer ≡ Decided.Yes
+settled-says-yes-at-full-count r t e full o =
+    let p = asked.settled-accepted r t e in
+    settled-yes r t e (full-count-is-settled r (p .0) full t (p .1)) o
+
+-- so an evaluation is always settled by the time all N atoms are marked: there is nothing to refuse by 19, which is retired
+pub evaluation-always-settles : (N : ℕ) (t : List ℕ) → AcceptedTable N t → (A : Marks) → Marking (rulesOf t) N A → Settled (rulesOf t) A
+evaluation-always-settles = always-settles

@@ -1,4 +1,4 @@
--- What an outcome of evaluation tells: 19 never comes, and two allowed outcomes are equal. Assumes nothing.
+-- An evaluation is settled with N marks made; what an outcome of it tells, and that two allowed outcomes are equal. Assumes nothing.
 use mathlib.Core.List.{List}
 use mathlib.Core.Path.{_≡_, refl, sym, ap, _∙_}
 use Prim.Native.Nat.{ℕ}
@@ -10,7 +10,7 @@ use Rattle.refusal.specs.Numbers.{too-many-atoms, table-too-long, value-room-to
 use Rattle.refusal.specs.declared.Checked.{Checked}
 use Rattle.refusal.specs.declared.Checked.the-variants.{Accepted, Refused}
 use Rattle.refusal.specs.Checks.{orElse}
-use Rattle.words.specs.Check.{tableCheck, tableTooLong, tooManyAtoms}
+use Rattle.words.specs.Check.{tableCheck, AcceptedTable, tableTooLong, tooManyAtoms}
 use Rattle.words.specs.Layout.{rulesOf}
 use Rattle.refusal.proofs.Laws.{refused≢accepted}
 use Rattle.words.proofs.Laws.{accepted-heads}
@@ -23,39 +23,31 @@ use Rattle.paper.proofs.Order.{marking-count, all-marked→settled}
 use Rattle.sets.proofs.Counting.{count-full}
 use Rattle.paper.proofs.Smallest.{smallest-unique}
 use Rattle.values.specs.Values.{roomTooSmall, written}
-use Rattle.evaluation.specs.Evaluation.{evaluationFault, EvaluationAllows, refused, never-settles, evaluated}
-use Rattle.evaluation.proofs.Evaluated.{evaluation-accepted}
+use Rattle.evaluation.specs.Evaluation.{evaluationFault, EvaluationAllows, refused, evaluated}
 
--- with N marks made an evaluation is settled: 19 can't happen
-pub always-settles : (N : ℕ) (t : List ℕ) (room : ℕ) → evaluationFault N t room ≡ Accepted
-    → (A : Marks) → Marking (rulesOf t) N A → Settled (rulesOf t) A
-always-settles N t room e A m =
-    let a = evaluation-accepted N t room e in
-    let below = accepted-heads N t (a .1) in
+-- with N marks made an evaluation is settled
+pub always-settles : (N : ℕ) (t : List ℕ) → AcceptedTable N t → (A : Marks) → Marking (rulesOf t) N A → Settled (rulesOf t) A
+always-settles N t accepted A m =
+    let below = accepted-heads N t accepted in
     all-marked→settled (rulesOf t) N below A (count-full N A (let c = marking-count (rulesOf t) N below m in omega arith))
 
 pub refused-is : (N : ℕ) (t room room′ : List ℕ) (ans : Checked) (r : Refusal) → EvaluationAllows N t room ans room′ → ans ≡ Checked.Refused r
     → (evaluationFault N t (length room) ≡ Refused r) × (room′ ≡ room)
 refused-is N t room room′ ans r (refused {f} e) p = let q : f ≡ r = cc in (e ∙ ap Refused q, refl)
-refused-is N t room room′ ans r (never-settles e A m n) p = absurd (n (always-settles N t (length room) e A m))
 refused-is N t room room′ ans r (evaluated e I s) p = let z : _≡_ {A = ℕ} 0 1 = cc in absurd (omega arith)
 
 pub evaluated-is : (N : ℕ) (t room room′ : List ℕ) (ans : Checked) → EvaluationAllows N t room ans room′ → ans ≡ Checked.Accepted
     → (evaluationFault N t (length room) ≡ Accepted)
     × ((I : Interpretation) × Smallest (rulesOf t) I × (room′ ≡ written (λ a. value I (positive a)) N room))
 evaluated-is N t room room′ ans (refused {f} e) p = let z : _≡_ {A = ℕ} 0 1 = cc in absurd (omega arith)
-evaluated-is N t room room′ ans (never-settles e A m n) p = let z : _≡_ {A = ℕ} 0 1 = cc in absurd (omega arith)
 evaluated-is N t room room′ ans (evaluated e I s) p = (e, (I, s, refl))
 
 -- two outcomes that the promise allows are equal
 pub evaluation-determined : (N : ℕ) (t room : List ℕ) {a b : Checked} {x y : List ℕ}
     → EvaluationAllows N t room a x → EvaluationAllows N t room b y → (a ≡ b) × (x ≡ y)
 evaluation-determined N t room (refused {f} e) (refused {f = g} e′) = let q : f ≡ g = cc in (ap Checked.Refused q, refl)
-evaluation-determined N t room (refused {f} e) (never-settles e′ A m n) = absurd (refused≢accepted f (sym e ∙ e′))
 evaluation-determined N t room (refused {f} e) (evaluated e′ I s) = absurd (refused≢accepted f (sym e ∙ e′))
-evaluation-determined N t room (never-settles e A m n) o = absurd (n (always-settles N t (length room) e A m))
 evaluation-determined N t room (evaluated e I s) (refused {f} e′) = absurd (refused≢accepted f (sym e′ ∙ e))
-evaluation-determined N t room (evaluated e I s) (never-settles e′ A m n) = absurd (n (always-settles N t (length room) e′ A m))
 evaluation-determined N t room (evaluated e I s) (evaluated e′ J s′) =
     (refl, ap (λ (K : Interpretation). written (λ a. value K (positive a)) N room) (smallest-unique (rulesOf t) I J s s′))
 

@@ -6,7 +6,6 @@ use lib.Dec.{leb}
 use lib.ListN.{length}
 use Rattle.paper.specs.Rules.{Rule}
 use Rattle.paper.specs.Definitions.{Smallest}
-use Rattle.paper.specs.Marking.{Marking, Settled}
 use Rattle.refusal.specs.Numbers.{table-too-long}
 use Rattle.refusal.specs.declared.Checked.{Checked}
 use Rattle.refusal.specs.declared.Checked.the-variants.{Accepted}
@@ -14,7 +13,7 @@ use Rattle.refusal.specs.Checks.{asking, orElse}
 use Rattle.words.specs.Check.{tooManyAtoms}
 use Rattle.words.proofs.OnlyLines.{Alike}
 use Rattle.values.specs.Values.{roomTooSmall}
-use Rattle.evaluation.specs.Evaluation.{evaluationFault, EvaluationAllows, refused, never-settles, evaluated}
+use Rattle.evaluation.specs.Evaluation.{evaluationFault, EvaluationAllows, refused, evaluated}
 use Rattle.evaluation.proofs.Laws.{evaluation-determined}
 
 module _ (N : ℕ) (t u : List ℕ) (alike : Alike t u) where
@@ -27,9 +26,6 @@ module _ (N : ℕ) (t u : List ℕ) (alike : Alike t u) where
   -- what the promise allows for the one it allows for the other
   evaluation-of : (room : List ℕ) {x : Checked} {room′ : List ℕ} → EvaluationAllows N t room x room′ → EvaluationAllows N u room x room′
   evaluation-of room (refused e) = refused (same-evaluation (length room) ∙ e)
-  evaluation-of room (never-settles e A m n) =
-      never-settles (same-evaluation (length room) ∙ e) A (subst (λ (R : List Rule). Marking R N A) (alike .rules) m)
-      (λ s. n (subst (λ (R : List Rule). Settled R A) (sym (alike .rules)) s))
   evaluation-of room (evaluated e I s) = evaluated (same-evaluation (length room) ∙ e) I (subst (λ (R : List Rule). Smallest R I) (alike .rules) s)
 
   pub evaluation-alike : (room : List ℕ) {x y : Checked} {room′ room″ : List ℕ}

@@ -35,7 +35,7 @@ use Rattle.valuesheet.specs.Fitting.{bytesFor}
 use Rattle.valuesheet.proofs.Printing.{lines-length}
 use Rattle.sheets.specs.declared.SheetAnswer.{SheetAnswer}
 use Rattle.sheets.specs.SheetEntry.{SheetAllows, sheetOf}
-use Rattle.sheets.proofs.Laws.{sheet-settles, sheet-one-rule}
+use Rattle.sheets.proofs.Laws.{sheet-one-rule}
 use Rattle.host.specs.Evaluation.{packed}
 use Rattle.host.specs.WholeWords.{Packable}
 use Rattle.hostsheet.specs.Rooms.{HasRoom}
@@ -155,7 +155,6 @@ packs s wordRoom nameRoom text (SheetAllows.refused {f} e) g same =
     let small : Small furthest f = subst SmallOutcome e (outcome-small s wordRoom nameRoom) in
     let is : f ≡ g = cc in
     subst (λ (x : Refusal). Packable x × (1 ≤ x .number)) is (record { number-small = omega arith; place-small = omega arith }, small .2)
-packs s wordRoom nameRoom text (SheetAllows.never-settles {x} e A m n) g same = absurd (n (sheet-settles s wordRoom nameRoom x e A m))
 packs s wordRoom nameRoom text (SheetAllows.does-not-fit {x} {I} e i h) g same =
     let short = value-sheet-is-short s wordRoom nameRoom x I e in
     let is : text-room-too-small (length (sheetOf s x I)) ≡ g = cc in
@@ -185,8 +184,6 @@ pub answer-tells : (s words names text : List ℕ) {a : ℕ} {ws ns text′ : Li
 answer-tells s words names text (HostSheet.answered (SheetAllows.refused {f} e)) =
     let p = packs s (length words / 2) (length names / 4) text (SheetAllows.refused e) f refl in
     inr (f, inl e, refl, p .1, p .0 .place-small)
-answer-tells s words names text (HostSheet.answered (SheetAllows.never-settles {x} e A m n)) =
-    absurd (n (sheet-settles s (length words / 2) (length names / 4) x e A m))
 answer-tells s words names text (HostSheet.answered (SheetAllows.does-not-fit {x} {I} e i h)) =
     inr (
       text-room-too-small (length (sheetOf s x I)),

@@ -99,7 +99,6 @@ module _ (s : List ℕ) (w n : ℕ) (text : List ℕ) (size size′ : ℕ) where
   pub in-longer : {r : SheetAnswer} {ws ns text′ : List ℕ} → SheetAllows s (roomFor 8192 w) (roomFor 512 n) text r ws ns text′
       → SheetAllows s w n text r (words-in ws) (names-in ns) text′
   in-longer (SheetAllows.refused e) = to no-words no-names (SheetAllows.refused (sym (same-outcome s w n) ∙ e))
-  in-longer (SheetAllows.never-settles e A m h) = to no-words no-names (SheetAllows.never-settles (sym (same-outcome s w n) ∙ e) A m h)
   in-longer (SheetAllows.does-not-fit e i h) = to no-words no-names (SheetAllows.does-not-fit (sym (same-outcome s w n) ∙ e) i h)
   in-longer (SheetAllows.accepted {x} {I} e i h) =
       let is = sym (same-outcome s w n) ∙ e in

@@ -1,7 +1,7 @@
 -- Demand 3 about the entries' own promises: the order of work never matters. Assumes nothing.
 use mathlib.Core.List.{List}
 use mathlib.Core.Logic.{_↔_, _≢_}
-use mathlib.Core.Path.{_≡_, refl, sym, ap, ap₂, _∙_, fun-ext}
+use mathlib.Core.Path.{_≡_, refl, sym, ap, ap₂, _∙_, subst⁻¹, fun-ext}
 use Prim.Native.Nat.{ℕ, _≤_, _<_}
 use native.Mathlib.Omega.{arith}
 use lib.Dec.{T-not}
@@ -22,8 +22,9 @@ use Rattle.paper.proofs.Existence.{pass-marks-one, passes-settle}
 use Rattle.paper.proofs.Order.{can-be-marked-below, settled-equal}
 use Rattle.paper.proofs.Smallest.{settledValue-is-smallest, marks-are-inconsistent}
 use Rattle.sets.proofs.Counting.{count-≡}
+use Rattle.bits.specs.Sets.{member}
 use Rattle.bits.proofs.Laws.{member-putIn-other, same-members}
-use Rattle.records.specs.Records.{marksOf, noMarksFor, withMarks, CountAllows}
+use Rattle.records.specs.Records.{marksOf, marksCounted, noMarksFor, CountAllows}
 use Rattle.picks.specs.Faults.{pickFault}
 use Rattle.records.specs.declared.MarkRecord.{MarkRecord}
 use Rattle.picks.specs.declared.PickAnswer.{PickAnswer}
@@ -32,7 +33,8 @@ use Rattle.refusal.specs.declared.Numbered.{Numbered}
 use Rattle.picks.specs.Entries.{PickAllows, SettledAllows, ReportAllows}
 use Rattle.values.specs.Values.{written}
 use Rattle.picks.specs.Traces.{Picks, PickPasses}
-use Rattle.picks.proofs.Tracing.{RecordFor, fresh-for, pick-not-refused, picks-pass, picks-marking, passes-passes}
+use Rattle.picks.proofs.Tracing.{RecordFor, fresh-for, record-for-good, pick-not-refused, picks-pass, picks-marking, passes-passes}
+use Rattle.picks.proofs.Counted.{all-counted-settled}
 use Rattle.picks.proofs.Faultless.{settled-not-refused, only-before-settled, reports, counts}
 
 -- a pick touches no other atom's mark, and not N
@@ -96,14 +98,18 @@ module _ (N : ℕ) (t : List ℕ) (accepted : AcceptedTable N t) {l : List ℕ} 
             (λ v. written v N room) (fun-ext (settledValue-is-smallest (rulesOf t) (accepted-one-rule N t accepted) (q .1 .1) s I i (w .1 .0) (w .1 .1))),
       )
 
-  -- and the count is the number of inconsistent atoms
+  -- and the marks are as many as the inconsistent atoms, which is what the mark count answers
+  as-many-inconsistent : Settled (rulesOf t) (marksOf r) → (I : Interpretation) → Smallest (rulesOf t) I → marksCounted r ≡ count 512 (inconsistent I)
+  as-many-inconsistent s I i =
+      let q = picks-marking N t accepted picks in
+      count-≡ 512 (marksOf r) (inconsistent I) (λ a h. marks-are-inconsistent (rulesOf t) (accepted-one-rule N t accepted) (q .1 .1) s I i a)
+
   pub count-after-picks : Settled (rulesOf t) (marksOf r) → (I : Interpretation) → Smallest (rulesOf t) I → {answer : Numbered} → CountAllows r answer
       → answer ≡ Numbered.Number (count 512 (inconsistent I))
-  count-after-picks s I i o =
-      let q = picks-marking N t accepted picks in
-      counts N t accepted r (q .0) o
-      ∙ ap Numbered.Number
-      (count-≡ 512 (marksOf r) (inconsistent I) (λ a h. marks-are-inconsistent (rulesOf t) (accepted-one-rule N t accepted) (q .1 .1) s I i a))
+  count-after-picks s I i o = counts N t accepted r reached o ∙ ap Numbered.Number (as-many-inconsistent s I i)
+
+  pub stored-after-picks : Settled (rulesOf t) (marksOf r) → (I : Interpretation) → Smallest (rulesOf t) I → r .count ≡ count 512 (inconsistent I)
+  stored-after-picks s I i = reached .counted .true-count ∙ as-many-inconsistent s I i
 
   -- until then a pass over all atoms, in any order, marks at least one
   pub pass-marks-at-least-one : (Settled (rulesOf t) (marksOf r) → ⊥) → (order : List ℕ)
@@ -112,6 +118,12 @@ module _ (N : ℕ) (t : List ℕ) (accepted : AcceptedTable N t) {l : List ℕ} 
   pass-marks-at-least-one n order all {r′} p =
       let q = picks-marking N t accepted picks in
       pass-marks-one (rulesOf t) N (accepted-heads N t accepted) (marksOf r) (marksOf r′) order all n (picks-pass N t accepted (q .0) p .1)
+
+  -- and by the time N marks are counted it is settled
+  pub settled-when-all-counted : r .count ≡ N → Settled (rulesOf t) (marksOf r)
+  settled-when-all-counted full =
+      all-counted-settled r (record-for-good N t accepted r reached) (full ∙ sym (reached .same-n)) t
+      (subst⁻¹ (λ (n : ℕ). AcceptedTable n t) (reached .same-n) accepted)
 
 -- so N passes settle
 pub n-passes-settle : (N : ℕ) (t : List ℕ) → AcceptedTable N t → {r : MarkRecord}
@@ -126,7 +138,12 @@ same-record N t accepted {r = r} {r′ = r′} picks picks′ s s′ =
     let q = picks-marking N t accepted picks in
     let q′ = picks-marking N t accepted picks′ in
     let marks : r .marks ≡ r′ .marks =
-    same-members (r .marks) (r′ .marks) (q .0 .words) (q′ .0 .words) (q .0 .eight ∙ sym (q′ .0 .eight))
+    same-members (r .marks) (r′ .marks) (q .0 .words) (q′ .0 .words) (q .0 .counted .eight ∙ sym (q′ .0 .counted .eight))
     (settled-equal (rulesOf t) (marksOf r) (marksOf r′) (q .1 .1) s (q′ .1 .1) s′)
     in
-    ap₂ (λ (n : ℕ) (m : List ℕ). withMarks (record { n = n; marks = m }) m) (q .0 .same-n ∙ sym (q′ .0 .same-n)) marks
+    by-marks r (q .0 .counted .true-count)
+    ∙ ap₂ (λ (n : ℕ) (m : List ℕ). record { n = n; marks = m; count = count 512 (member m) }) (q .0 .same-n ∙ sym (q′ .0 .same-n)) marks
+    ∙ sym (by-marks r′ (q′ .0 .counted .true-count))
+  where
+    by-marks : (x : MarkRecord) → x .count ≡ marksCounted x → x ≡ record { n = x .n; marks = x .marks; count = marksCounted x }
+    by-marks x e = ap (λ (c : ℕ). record { n = x .n; marks = x .marks; count = c }) e

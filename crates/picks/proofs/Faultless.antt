@@ -59,4 +59,4 @@ module _ (N : ℕ) (t : List ℕ) (accepted : AcceptedTable N t) (r : MarkRecord
 
   pub counts : {answer : Numbered} → CountAllows r answer → answer ≡ Numbered.Number (count 512 (marksOf r))
   counts (CountAllows.refused {f} e) = absurd (refused≢accepted f (sym e ∙ record-accepted))
-  counts (CountAllows.counted e) = refl
+  counts (CountAllows.counted e) = ap Numbered.Number (g .counted .true-count)

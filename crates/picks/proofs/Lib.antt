@@ -1,4 +1,5 @@
 pub mod Accepted
+pub mod Counted
 pub mod Tracing
 pub mod Faultless
 pub mod Demand3

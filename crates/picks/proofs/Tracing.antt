@@ -19,24 +19,25 @@ use Rattle.paper.proofs.Order.{can-be-marked-below, pass-marking}
 use Rattle.sets.proofs.Besides.{with-cases}
 use Rattle.bits.specs.Sets.{member, putIn}
 use Rattle.bits.specs.Rows.{Words}
-use Rattle.bits.proofs.Laws.{member-putIn, length-putIn, member-of-zeros, words-of-zeros, words-putIn}
+use Rattle.bits.proofs.Laws.{member-putIn, member-of-zeros, words-of-zeros, words-putIn}
 use Rattle.records.specs.Records.{recordFault, marksOf, noMarksFor}
 use Rattle.picks.specs.Faults.{pickFault}
 use Rattle.records.proofs.Laws.{good-record}
+use Rattle.picks.proofs.Counted.{Counted, fresh-counted, pick-counted}
 use Rattle.records.specs.declared.MarkRecord.{MarkRecord}
 use Rattle.picks.specs.declared.PickAnswer.{PickAnswer}
 use Rattle.picks.specs.Entries.{PickAllows}
 use Rattle.picks.specs.Traces.{Picks, no-picks, then-picks, PickPasses}
 
--- a record for N atoms: eight words of 64 bits, and marks below N
+-- a record for N atoms: eight words of 64 bits, their marks counted, and none at N or above
 pub record RecordFor (N : ℕ) (r : MarkRecord) : Type 0 where
   pub same-n : r .n ≡ N
-  pub eight : length (r .marks) ≡ 8
+  pub counted : Counted r
   pub words : Words (r .marks)
   pub below : (a : ℕ) → T (marksOf r a) → a < N
 
 pub fresh-for : (N : ℕ) → RecordFor N (noMarksFor N)
-fresh-for N = record { same-n = refl; eight = refl; words = words-of-zeros 8; below = λ a h. absurd (subst T (member-of-zeros 8 a) h) }
+fresh-for N = record { same-n = refl; counted = fresh-counted N; words = words-of-zeros 8; below = λ a h. absurd (subst T (member-of-zeros 8 a) h) }
 
 pub fresh-marks : (N : ℕ) → marksOf (noMarksFor N) ≡ noMarks
 fresh-marks N = mathlib.Core.Path.fun-ext (member-of-zeros 8)
@@ -45,8 +46,12 @@ module _ (N : ℕ) (t : List ℕ) (accepted : AcceptedTable N t) where
   -- its record has no fault
   pub record-for-good : (r : MarkRecord) → RecordFor N r → recordFault r ≡ Accepted
   record-for-good r g =
-      good-record r (subst⁻¹ (λ (n : ℕ). n ≤ 512) (g .same-n) (accepted-atoms N t accepted))
-      (λ b h m. subst⁻¹ (λ (n : ℕ). b < n) (g .same-n) (g .below b m))
+      good-record r
+      (record {
+        at-most-512 = subst⁻¹ (λ (n : ℕ). n ≤ 512) (g .same-n) (accepted-atoms N t accepted);
+        below = λ b h m. subst⁻¹ (λ (n : ℕ). b < n) (g .same-n) (g .below b m);
+        counted = g .counted .true-count;
+      })
 
   -- an atom below N is not refused
   pub pick-not-refused : (r : MarkRecord) → RecordFor N r → (a : ℕ) → a < N → pickFault r t a ≡ Accepted
@@ -68,11 +73,11 @@ module _ (N : ℕ) (t : List ℕ) (accepted : AcceptedTable N t) where
   step {r} {a = a} g (PickAllows.marked e c) =
       let lt : a < N = can-be-marked-below (rulesOf t) N (accepted-heads N t accepted) (marksOf r) a c in
       let le : N ≤ 512 = accepted-atoms N t accepted in
-      let len : length (r .marks) ≡ 8 = g .eight in
+      let len : length (r .marks) ≡ 8 = g .counted .eight in
       let m : member (putIn (r .marks) a) ≡ (marksOf r with a) = member-putIn (r .marks) a (omega arith) in (
         record {
           same-n = g .same-n;
-          eight = length-putIn (r .marks) a ∙ g .eight;
+          counted = pick-counted (g .counted) (PickAllows.marked e c);
           words = words-putIn (r .marks) a (g .words);
           below = λ b h.
               ⊎-elim (λ (x : b ≡ a). rw x lt) (λ (x : T (marksOf r b)). g .below b x)

@@ -11,8 +11,7 @@ use Rattle.refusal.specs.Questions.{QuestionAllows}
 use Rattle.words.specs.Layout.{rulesOf}
 use Rattle.paper.specs.Definitions.{Interpretation}
 use Rattle.paper.specs.Marking.{Marked, Unmarked, CanBeMarked, Settled, IsHeld, settledValue}
-use Rattle.bits.specs.Sets.{putIn}
-use Rattle.records.specs.Records.{marksOf, withMarks}
+use Rattle.records.specs.Records.{marksOf, withMark}
 use Rattle.picks.specs.Faults.{pickFault, settledFault, reportFault}
 use Rattle.records.specs.declared.MarkRecord.{MarkRecord}
 use Rattle.picks.specs.declared.PickAnswer.{PickAnswer}
@@ -24,7 +23,7 @@ pub data PickAllows (r : MarkRecord) (t : List ℕ) (a : ℕ) : PickAnswer → M
   refused : {f : Refusal} → pickFault r t a ≡ Refused f → PickAllows r t a (PickAnswer.Refused f) r
   already-marked : pickFault r t a ≡ Accepted → Marked (marksOf r) a → PickAllows r t a PickAnswer.AlreadyMarked r
   marked : pickFault r t a ≡ Accepted → CanBeMarked (rulesOf t) (marksOf r) a
-      → PickAllows r t a PickAnswer.Marked (withMarks r (putIn (r .marks) a))
+      → PickAllows r t a PickAnswer.Marked (withMark r a)
   cannot-be-marked-now : pickFault r t a ≡ Accepted → Unmarked (marksOf r) a → (CanBeMarked (rulesOf t) (marksOf r) a → ⊥)
       → PickAllows r t a PickAnswer.CannotBeMarkedNow r
 

@@ -47,7 +47,6 @@ fn mark_atom(record: MarkRecord, table: &[u16], atom: u64) -> Picked
     requires { ⌜ pickFault «record» (now table) atom ≡ Checked.Accepted ⌝ }
     ensures { λ r. ⌜ PickAllows «record» (now (table .entry)) atom (r .answer) (r .record) ⌝ }
 {
-    let n = record.n;
     let marks = record.marks;
     let a = atom as usize;
     if bits::has(&marks, a) {
@@ -57,11 +56,10 @@ fn mark_atom(record: MarkRecord, table: &[u16], atom: u64) -> Picked
         };
     }
     if marking::can_be_marked(table, &marks, a) {
-        let mut more = marks;
-        bits::put(&mut more, a);
+        let marked = records::with_mark(record, a);
         return Picked {
             answer: PickAnswer::Marked,
-            record: MarkRecord { n, marks: more },
+            record: marked,
         };
     }
     Picked {
@@ -92,11 +90,11 @@ pub fn pick(record: &mut MarkRecord, table: &[u16], atom: u64) -> PickAnswer
     picked.answer
 }
 
-// A pick for a caller that has N and the marks as numbers: they are made a record, and the record is lent.
-pub fn pick_numbers(n: u64, marks: [u64; 8], table: &[u16], atom: u64) -> Picked
-    ensures { λ r. ⌜ PickAllows (record { n = n; marks = marks }) (now (table .entry)) atom (r .answer) (r .record) ⌝ }
+// A pick for a caller that has N, the marks and their count as numbers: they are made a record, and the record is lent.
+pub fn pick_numbers(n: u64, marks: [u64; 8], count: u64, table: &[u16], atom: u64) -> Picked
+    ensures { λ r. ⌜ PickAllows (record { n = n; marks = marks; count = count }) (now (table .entry)) atom (r .answer) (r .record) ⌝ }
 {
-    let mut record = MarkRecord { n, marks };
+    let mut record = MarkRecord { n, marks, count };
     let answer = pick(&mut record, table, atom);
     Picked { answer, record }
 }

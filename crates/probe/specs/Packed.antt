@@ -50,12 +50,13 @@ pickNumber PickAnswer.AlreadyMarked = 1
 pickNumber PickAnswer.CannotBeMarkedNow = 2
 pickNumber (PickAnswer.Refused r) = packedWrapping r
 
--- the record's entries: what crates/picks allows, packed; N and marks afterwards where they are lent
-pub data FreshPacked (asked : ℕ) : ℕ → ℕ → List ℕ → Type 0 where
-  answers : {a : Checked} {r : MarkRecord} → FreshAllows asked a r → FreshPacked asked (checkedNumber a) (r .n) (r .marks)
+-- the record's entries: what crates/picks allows, packed; N, marks and count afterwards where they are lent
+pub data FreshPacked (asked : ℕ) : ℕ → ℕ → List ℕ → ℕ → Type 0 where
+  answers : {a : Checked} {r : MarkRecord} → FreshAllows asked a r → FreshPacked asked (checkedNumber a) (r .n) (r .marks) (r .count)
 
-pub data PickPacked (r : MarkRecord) (t : List ℕ) (atom : ℕ) : ℕ → ℕ → List ℕ → Type 0 where
-  answers : {a : PickAnswer} {after : MarkRecord} → PickAllows r t atom a after → PickPacked r t atom (pickNumber a) (after .n) (after .marks)
+pub data PickPacked (r : MarkRecord) (t : List ℕ) (atom : ℕ) : ℕ → ℕ → List ℕ → ℕ → Type 0 where
+  answers : {a : PickAnswer} {after : MarkRecord} → PickAllows r t atom a after
+      → PickPacked r t atom (pickNumber a) (after .n) (after .marks) (after .count)
 
 pub data SettledPacked (r : MarkRecord) (t : List ℕ) : ℕ → Type 0 where
   answers : {a : Decided} → SettledAllows r t a → SettledPacked r t (decidedNumber a)

@@ -90,8 +90,8 @@ pub extern "C" fn probe_check(n: u64, table: &[u16]) -> u64
 }
 
 #[no_mangle]
-pub extern "C" fn probe_fresh(asked: u64, n: &mut u64, marks: &mut [u64; 8]) -> u64
-    ensures { λ r. ⌜ FreshPacked asked r (now (n .exit)) (now (marks .exit)) ⌝ }
+pub extern "C" fn probe_fresh(asked: u64, n: &mut u64, marks: &mut [u64; 8], count: &mut u64) -> u64
+    ensures { λ r. ⌜ FreshPacked asked r (now (n .exit)) (now (marks .exit)) (now (count .exit)) ⌝ }
 {
     let made = records::fresh(asked);
     let record = made.record;
@@ -99,6 +99,7 @@ pub extern "C" fn probe_fresh(asked: u64, n: &mut u64, marks: &mut [u64; 8]) -> 
     let m = record.marks;
     *n = record.n;
     *marks = m;
+    *count = record.count;
     checked_number(answer)
 }
 
@@ -114,41 +115,54 @@ fn pick_number(answer: PickAnswer) -> u64
 }
 
 #[no_mangle]
-pub extern "C" fn probe_pick(n: &mut u64, marks: &mut [u64; 8], table: &[u16], atom: u64) -> u64
-    ensures { λ r. ⌜ PickPacked (record { n = now (n .entry); marks = now (marks .entry) }) (now (table .entry)) atom r (now (n .exit)) (now (marks .exit)) ⌝ }
+pub extern "C" fn probe_pick(
+    n: &mut u64,
+    marks: &mut [u64; 8],
+    count: &mut u64,
+    table: &[u16],
+    atom: u64,
+) -> u64
+    ensures { λ r. ⌜ PickPacked (record { n = now (n .entry); marks = now (marks .entry); count = now (count .entry) }) (now (table .entry)) atom r (now (n .exit)) (now (marks .exit)) (now (count .exit)) ⌝ }
 {
     let m = *marks;
-    let picked = picks::pick_numbers(*n, m, table, atom);
+    let picked = picks::pick_numbers(*n, m, *count, table, atom);
     let record = picked.record;
     let answer = picked.answer;
     let after = record.marks;
     *n = record.n;
     *marks = after;
+    *count = record.count;
     pick_number(answer)
 }
 
 #[no_mangle]
-pub extern "C" fn probe_settled(n: u64, marks: &[u64; 8], table: &[u16]) -> u64
-    ensures { λ r. ⌜ SettledPacked (record { n = n; marks = now (marks .entry) }) (now (table .entry)) r ⌝ }
+pub extern "C" fn probe_settled(n: u64, marks: &[u64; 8], count: u64, table: &[u16]) -> u64
+    ensures { λ r. ⌜ SettledPacked (record { n = n; marks = now (marks .entry); count = count }) (now (table .entry)) r ⌝ }
 {
     let m = *marks;
-    decided_number(picks::settled(MarkRecord { n, marks: m }, table))
+    decided_number(picks::settled(MarkRecord { n, marks: m, count }, table))
 }
 
 #[no_mangle]
-pub extern "C" fn probe_report(n: u64, marks: &[u64; 8], table: &[u16], values: &mut [u8]) -> u64
-    ensures { λ r. ⌜ ReportPacked (record { n = n; marks = now (marks .entry) }) (now (table .entry)) (now (values .entry)) r (now (values .exit)) ⌝ }
+pub extern "C" fn probe_report(
+    n: u64,
+    marks: &[u64; 8],
+    count: u64,
+    table: &[u16],
+    values: &mut [u8],
+) -> u64
+    ensures { λ r. ⌜ ReportPacked (record { n = n; marks = now (marks .entry); count = count }) (now (table .entry)) (now (values .entry)) r (now (values .exit)) ⌝ }
 {
     let m = *marks;
-    checked_number(picks::report(MarkRecord { n, marks: m }, table, values))
+    checked_number(picks::report(MarkRecord { n, marks: m, count }, table, values))
 }
 
 #[no_mangle]
-pub extern "C" fn probe_mark_count(n: u64, marks: &[u64; 8]) -> u64
-    ensures { λ r. ⌜ CountPacked (record { n = n; marks = now (marks .entry) }) r ⌝ }
+pub extern "C" fn probe_mark_count(n: u64, marks: &[u64; 8], count: u64) -> u64
+    ensures { λ r. ⌜ CountPacked (record { n = n; marks = now (marks .entry); count = count }) r ⌝ }
 {
     let m = *marks;
-    numbered_number(records::mark_count(MarkRecord { n, marks: m }))
+    numbered_number(records::mark_count(MarkRecord { n, marks: m, count }))
 }
 
 #[no_mangle]

@@ -4,12 +4,13 @@ ghost use mathlib.Core.Path.{_≡_};
 ghost use Prim.Native.Nat.{_≤_};
 ghost use Rattle.limits.specs.Limits.{mostAtoms};
 ghost use Rattle.bits.specs.Sets.{member};
-ghost use Rattle.records.specs.Records.{marksFrom, recordFault, FreshAllows, CountAllows};
+ghost use Rattle.records.specs.Records.{noMarksFor, withMark, marksFrom, recordFault, FreshAllows, CountAllows};
 
-// N and 512 marks: atom a is bit a mod 64, lowest first, of word a div 64.
+// N, 512 marks and their count: atom a is bit a mod 64, lowest first, of word a div 64.
 pub struct MarkRecord {
     pub n: u64,
     pub marks: [u64; 8],
+    pub count: u64,
 }
 
 // A fresh record, and whether it is one for the N that was asked.
@@ -18,24 +19,46 @@ pub struct FreshRecord {
     pub record: MarkRecord,
 }
 
+// A record for `n` with no marks, and none counted.
+fn no_marks_for(n: u64) -> MarkRecord
+    ensures { λ r. ⌜ r ≡ noMarksFor n ⌝ }
+{
+    MarkRecord {
+        n,
+        marks: [0u64; 8],
+        count: 0,
+    }
+}
+
 pub fn fresh(n: u64) -> FreshRecord
     ensures { λ r. ⌜ FreshAllows n (r .answer) (r .record) ⌝ }
 {
     if limits::MOST_N < n {
         return FreshRecord {
             answer: refusal::refused(refusal::TOO_MANY_ATOMS, 0),
-            record: MarkRecord {
-                n: 0,
-                marks: [0u64; 8],
-            },
+            record: no_marks_for(0),
         };
     }
     FreshRecord {
         answer: Checked::Accepted,
-        record: MarkRecord {
-            n,
-            marks: [0u64; 8],
-        },
+        record: no_marks_for(n),
+    }
+}
+
+// The record with a mark at `a` besides, and one more counted.
+pub fn with_mark(record: MarkRecord, a: usize) -> MarkRecord
+    requires { ⌜ «record» .count ≤ mostAtoms ⌝ }
+    ensures { λ r. ⌜ r ≡ withMark «record» a ⌝ }
+{
+    let n = record.n;
+    let marks = record.marks;
+    let mut more = marks;
+    bits::put(&mut more, a);
+    let count = record.count + 1;
+    MarkRecord {
+        n,
+        marks: more,
+        count,
     }
 }
 
@@ -62,23 +85,26 @@ pub fn record_fault(record: MarkRecord) -> Checked
 {
     let n = record.n;
     let marks = record.marks;
+    let count = record.count;
     if limits::MOST_N < n {
         return refusal::refused(refusal::TOO_MANY_ATOMS, 0);
     }
     let from = n as usize;
     if marks_from(&marks, from, limits::MOST_ATOMS - from) {
-        return refusal::refused(refusal::MARK_PAST_ATOMS, 0);
+        return refusal::refused(refusal::BROKEN_RECORD, 0);
+    }
+    if count != bits::count(&marks) as u64 {
+        return refusal::refused(refusal::BROKEN_RECORD, 0);
     }
     Checked::Accepted
 }
 
-// The number of marks, counted from its bits.
+// The stored number of marks.
 pub fn mark_count(record: MarkRecord) -> Numbered
     ensures { λ r. ⌜ CountAllows «record» r ⌝ }
 {
     if let Checked::Refused(r) = record_fault(record) {
         return Numbered::Refused(r);
     }
-    let marks = record.marks;
-    Numbered::Number(bits::count(&marks) as u64)
+    Numbered::Number(record.count)
 }

@@ -69,17 +69,13 @@ text-room-too-small needed = refusal 15 needed
 abbrev pub no-such-atom : Refusal
 no-such-atom = refusal 16 0
 
--- 17: record has a mark at N or above; place 0
-abbrev pub mark-past-atoms : Refusal
-mark-past-atoms = refusal 17 0
+-- 17: record has a mark at N or above, or its stored count is not the number of marks; place 0
+abbrev pub broken-record : Refusal
+broken-record = refusal 17 0
 
 -- 18: report before settled; place 0
 abbrev pub not-settled : Refusal
 not-settled = refusal 18 0
-
--- 19: evaluation has made N marks and is not settled; place 0
-abbrev pub never-settled : Refusal
-never-settled = refusal 19 0
 
 -- 20: truth code above 3 handed to a connective, place 0; value code above 3, place: atom
 abbrev pub not-a-truth-code : ℕ → Refusal

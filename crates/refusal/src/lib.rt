@@ -87,11 +87,9 @@ pub const TEXT_ROOM_TOO_SMALL: u64 = 15;
 
 pub const NO_SUCH_ATOM: u64 = 16;
 
-pub const MARK_PAST_ATOMS: u64 = 17;
+pub const BROKEN_RECORD: u64 = 17;
 
 pub const NOT_SETTLED: u64 = 18;
-
-pub const NEVER_SETTLED: u64 = 19;
 
 pub const NOT_A_TRUTH_CODE: u64 = 20;
 

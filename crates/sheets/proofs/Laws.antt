@@ -2,18 +2,15 @@
 use mathlib.Core.Path.{_≡_, refl, sym, ap, ap₂, _∙_, subst, subst₂}
 use mathlib.Core.List.{List, _++_}
 use Prim.Native.Nat.{ℕ, _≤_}
-use native.Mathlib.Nat.{le-refl}
 use native.Mathlib.Omega.{arith}
 use lib.ListN.{length, take, drop, length-append}
 use Rattle.refusal.specs.Numbers.{text-room-too-small}
 use Rattle.paper.specs.Rules.{OneRulePerHead}
 use Rattle.paper.specs.Definitions.{Interpretation, Smallest}
-use Rattle.paper.specs.Marking.{Marks, Marking, Settled}
 use Rattle.paper.proofs.Smallest.{smallest-unique}
 use Rattle.words.specs.Check.{AcceptedTable}
 use Rattle.words.specs.Layout.{TableRecord, wordsOf, recordsOf, rulesIn}
 use Rattle.words.proofs.Laws.{accepted-one-rule}
-use Rattle.evaluation.proofs.Laws.{always-settles}
 use Rattle.literals.specs.Literals.{Sofar}
 use Rattle.literals.proofs.Growth.{LineByLine, in-front}
 use Rattle.sheetwords.specs.Sheets.{accepted, refused, sheetOutcome}
@@ -23,17 +20,6 @@ use Rattle.sheetwords.proofs.Laws.{sheet-table-accepted, sheet-lines, sheet-tab
 use Rattle.sheets.specs.declared.SheetAnswer.{SheetAnswer}
 use Rattle.sheets.specs.declared.SheetCounts.{SheetCounts}
 use Rattle.sheets.specs.SheetEntry.{sheetOf, counts, SheetAllows}
-use Rattle.sheets.proofs.Values.{no-fault}
-
--- with N marks made an evaluation of a sheet is settled: 19 can't happen
-pub sheet-settles : (s : List ℕ) (wordRoom nameRoom : ℕ) (x : Sofar) → sheetOutcome s wordRoom nameRoom ≡ accepted x
-    → (A : Marks) → Marking (rulesIn (x .records)) (length (x .names)) A → Settled (rulesIn (x .records)) A
-sheet-settles s wordRoom nameRoom x e A m =
-    let table = sheet-table-accepted s wordRoom nameRoom x e in
-    let N = length (x .names) in
-    subst (λ (Q : List TableRecord). Settled (rulesIn Q) A) (sheet-table-records x)
-    (always-settles N (wordsOf (x .records)) N (no-fault N (wordsOf (x .records)) N (le-refl N) table) A
-    (subst (λ (Q : List TableRecord). Marking (rulesIn Q) N A) (sym (sheet-table-records x)) m))
 
 -- an accepted sheet has at most one rule per head
 pub sheet-one-rule : (s : List ℕ) (wordRoom nameRoom : ℕ) (x : Sofar) → sheetOutcome s wordRoom nameRoom ≡ accepted x
@@ -55,14 +41,10 @@ Equal a b ws ws′ ns ns′ text text′ = (a ≡ b) × (ws ≡ ws′) × (ns �
 module _ (s : List ℕ) (wordRoom nameRoom : ℕ) (text : List ℕ) where
   pub sheet-determined : {a b : SheetAnswer} {ws ws′ ns ns′ t t′ : List ℕ} → SheetAllows s wordRoom nameRoom text a ws ns t
       → SheetAllows s wordRoom nameRoom text b ws′ ns′ t′ → Equal a b ws ws′ ns ns′ t t′
-  sheet-determined (SheetAllows.never-settles {x} e A m n) o = absurd (n (sheet-settles s wordRoom nameRoom x e A m))
-  sheet-determined (SheetAllows.refused {f} e) (SheetAllows.never-settles {x} e′ A m n) = absurd (n (sheet-settles s wordRoom nameRoom x e′ A m))
   sheet-determined (SheetAllows.refused {f} e) (SheetAllows.refused {f = g} e′) =
       let same : f ≡ g = (let z : refused f ≡ refused g = sym e ∙ e′ in cc) in (ap SheetAnswer.Refused same, refl, refl, refl)
   sheet-determined (SheetAllows.refused {f} e) (SheetAllows.does-not-fit {x} e′ i h) = absurd (accepted-is-not-refused x f (sym e′ ∙ e))
   sheet-determined (SheetAllows.refused {f} e) (SheetAllows.accepted {x} e′ i h) = absurd (accepted-is-not-refused x f (sym e′ ∙ e))
-  sheet-determined (SheetAllows.does-not-fit {x} {I} e i h) (SheetAllows.never-settles {x = y} e′ A m n) =
-      absurd (n (sheet-settles s wordRoom nameRoom y e′ A m))
   sheet-determined (SheetAllows.does-not-fit {x} {I} e i h) (SheetAllows.refused {f} e′) = absurd (accepted-is-not-refused x f (sym e ∙ e′))
   sheet-determined (SheetAllows.does-not-fit {x} {I} e i h) (SheetAllows.does-not-fit {x = y} {I = J} e′ j h′) =
       let same = same-sheet s wordRoom nameRoom x y I J e e′ i j in
@@ -70,8 +52,6 @@ module _ (s : List ℕ) (wordRoom nameRoom : ℕ) (text : List ℕ) where
   sheet-determined (SheetAllows.does-not-fit {x} {I} e i h) (SheetAllows.accepted {x = y} {I = J} e′ j h′) =
       let same = same-sheet s wordRoom nameRoom x y I J e e′ i j in
       absurd (omega (arith, h, h′, ap₂ (λ (z : Sofar) (K : Interpretation). length (sheetOf s z K)) (same .0) (same .1)))
-  sheet-determined (SheetAllows.accepted {x} {I} e i h) (SheetAllows.never-settles {x = y} e′ A m n) =
-      absurd (n (sheet-settles s wordRoom nameRoom y e′ A m))
   sheet-determined (SheetAllows.accepted {x} {I} e i h) (SheetAllows.refused {f} e′) = absurd (accepted-is-not-refused x f (sym e ∙ e′))
   sheet-determined (SheetAllows.accepted {x} {I} e i h) (SheetAllows.does-not-fit {x = y} {I = J} e′ j h′) =
       let same = same-sheet s wordRoom nameRoom x y I J e e′ i j in
@@ -102,7 +82,6 @@ pub accepted-leaves : (s : List ℕ) (wordRoom nameRoom : ℕ) (text : List ℕ)
     → SheetAllows s wordRoom nameRoom text a ws ns text′
     → (c : SheetCounts) → a ≡ SheetAnswer.Accepted c → Leaves s wordRoom nameRoom c ws ns text′
 accepted-leaves s wordRoom nameRoom text (SheetAllows.refused e) c same = absurd (let z : _≡_ {A = ℕ} 0 1 = cc in omega arith)
-accepted-leaves s wordRoom nameRoom text (SheetAllows.never-settles e A m n) c same = absurd (let z : _≡_ {A = ℕ} 0 1 = cc in omega arith)
 accepted-leaves s wordRoom nameRoom text (SheetAllows.does-not-fit e i h) c same = absurd (let z : _≡_ {A = ℕ} 0 1 = cc in omega arith)
 accepted-leaves s wordRoom nameRoom text (SheetAllows.accepted {x} {I} e i h) c same =
     let atoms : length (x .names) ≡ c .atoms = cc in

@@ -4,11 +4,10 @@ use mathlib.Core.List.{List, [], _++_}
 use Prim.Native.Nat.{ℕ, _≤_, _<_}
 use lib.ListN.{length, drop}
 use Rattle.refusal.specs.declared.Refusal.{Refusal}
-use Rattle.refusal.specs.Numbers.{never-settled, text-room-too-small}
+use Rattle.refusal.specs.Numbers.{text-room-too-small}
 use Rattle.paper.specs.Table1.{code}
 use Rattle.paper.specs.Rules.{positive}
 use Rattle.paper.specs.Definitions.{Interpretation, value, Smallest}
-use Rattle.paper.specs.Marking.{Marks, Marking, Settled}
 use Rattle.words.specs.Layout.{wordsOf, rulesIn}
 use Rattle.literals.specs.Literals.{Sofar}
 use Rattle.sheetwords.specs.Sheets.{sheetOutcome}
@@ -29,9 +28,6 @@ counts s x I = SheetAnswer.Accepted (record { atoms = length (x .names); words =
 pub data SheetAllows (s : List ℕ) (wordRoom nameRoom : ℕ) (text : List ℕ) : SheetAnswer → List ℕ → List ℕ → List ℕ → Type 0 where
   refused : {f : Refusal} → sheetOutcome s wordRoom nameRoom ≡ sheet.refused f
       → SheetAllows s wordRoom nameRoom text (SheetAnswer.Refused f) (padded wordRoom []) (padded nameRoom []) text
-  never-settles : {x : Sofar} → sheetOutcome s wordRoom nameRoom ≡ sheet.accepted x
-      → (A : Marks) → Marking (rulesIn (x .records)) (length (x .names)) A → (Settled (rulesIn (x .records)) A → ⊥)
-      → SheetAllows s wordRoom nameRoom text (SheetAnswer.Refused never-settled) (padded wordRoom []) (padded nameRoom []) text
   does-not-fit : {x : Sofar} {I : Interpretation} → sheetOutcome s wordRoom nameRoom ≡ sheet.accepted x → Smallest (rulesIn (x .records)) I
       → length text < length (sheetOf s x I)
       → SheetAllows s wordRoom nameRoom text (SheetAnswer.Refused (text-room-too-small (length (sheetOf s x I)))) (padded wordRoom []) (padded nameRoom []) text

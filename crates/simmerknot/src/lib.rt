@@ -53,7 +53,7 @@ pub extern "C" fn simmerknot_check_reasons(n: u64, table: &[u8], values: &[u8], 
 // SIMMERKNOT_VERSION of include/simmerknot.h: 1,000,000 × major + 1,000 × minor + patch.
 #[no_mangle]
 pub extern "C" fn simmerknot_version() -> u64
-    ensures { λ v. ⌜ v ≡ 3002 ⌝ }
+    ensures { λ v. ⌜ v ≡ 4000 ⌝ }
 {
-    3002
+    4000
 }

@@ -1,12 +1,10 @@
 use borrow.Author.Needs.{needs}
-use mathlib.Core.List.{List}
 use mathlib.Core.Path.{sym, _∙_, subst⁻¹}
-use Prim.Native.Nat.{ℕ}
 use lib.Dec.{T-not}
 use native.Mathlib.Omega.{arith}
 use Rattle.sets.proofs.Tests.{true→T, false→not}
 use Rattle.picks.proofs.Accepted.{pick-accepted}
-use Rattle.records.proofs.Laws.{record-good}
+use Rattle.records.proofs.Laws.{record-good, counted-at-most-512}
 use Rattle.least.proofs.Marked.{accepted-records}
 use Rattle.picks.specs.declared.PickAnswer.{PickAnswer}
 use Rattle.picks.specs.Entries.{PickAllows}
@@ -35,19 +33,18 @@ can-be-marked-requires c κs =
     let lt = p .2 in
     (omega arith, search needs, accepted-records (entry .args .record .n) (entry .args .table .now) (p .1))
 
-slice-aggregate-put : tie.Need-slice-aggregate-put
-slice-aggregate-put c = search needs
-
-put-requires : tie.Need-put-requires
-put-requires c κs = search needs
+with-mark-requires : tie.Need-with-mark-requires
+with-mark-requires c κs =
+    let entry = c .before .before .before .before .before .before .before .before in
+    let p = pick-accepted (entry .args .record) (entry .args .table .now) (entry .args .atom) (entry .pre) in
+    counted-at-most-512 (entry .args .record) (p .0)
 
 returns-2 : tie.Need-returns-2
 returns-2 c =
-    let entry = c .before .before .before .before .before .before .before .before .before .before .before in
-    let at-can-be-marked = c .before .before .before .before .can-be-marked in
-    subst⁻¹ (λ (m : List ℕ). PickAllows (entry .args .record) (entry .args .table .now) (entry .args .atom) PickAnswer.Marked
-    (record { n = entry .args .record .n; marks = m })) (c .before .put .ensures)
-    (PickAllows.marked (entry .pre) (at-can-be-marked .ensures .0 (true→T _ (c .before .before .before .if2 .taken))))
+    let entry = c .before .before .before .before .before .before .before .before .before in
+    let allows = PickAllows (entry .args .record) (entry .args .table .now) (entry .args .atom) PickAnswer.Marked in
+    subst⁻¹ allows (c .with-mark .ensures)
+    (PickAllows.marked (entry .pre) (c .before .before .can-be-marked .ensures .0 (true→T _ (c .before .if2 .taken))))
 
 returns-3 : tie.Need-returns-3
 returns-3 c =
@@ -65,7 +62,6 @@ mark-atom-spec =
     returns
     slice-aggregate-can-be-marked
     can-be-marked-requires
-    slice-aggregate-put
-    put-requires
+    with-mark-requires
     returns-2
     returns-3)

@@ -76,7 +76,10 @@ row-vals = array-vals (uint-vals w64)
 abbrev stayed : Stays (numbers.ended .signature .params) (numbers.ended .kept)
 stayed = (
   stay-none (λ _. u64) yes,
-  (stay-dropped (ArrayOf (plain (λ _. u64)) (λ _. tt) 8) yes, (stay-none-slice (0 ∷ []) tt (plain (λ _. u16)) yes, (stay-none (λ _. u64) yes, tt))),
+  (
+    stay-dropped (ArrayOf (plain (λ _. u64)) (λ _. tt) 8) yes,
+    (stay-none (λ _. u64) yes, (stay-none-slice (0 ∷ []) tt (plain (λ _. u16)) yes, (stay-none (λ _. u64) yes, tt))),
+  ),
 )
 
 -- the contract that the proof cites
@@ -112,19 +115,19 @@ picked-is r u a b =
     told = EL.tells S.the-type S′.the-laws (r .answer) (u ∷ []) a
 
 module _ {M : Type 1} (𝓤 : URA M) (H : Heap 𝓤) (A : Atoms 𝓤) (W : Given 𝓤 H A) (at-mem : Memory → SProp 𝓤)
-    (run : Routine → Fun 𝓤) (κ : Lft) (q : Share) (n : ℕ) (marks : List ℕ) (s : RefT (List ℕ)) (a : ℕ) where
-  abbrev x : ℕ × (List ℕ × (RefT (List ℕ) × (ℕ × Unit {0})))
-  x = (n, (marks, (s, (a, tt))))
+    (run : Routine → Fun 𝓤) (κ : Lft) (q : Share) (n : ℕ) (marks : List ℕ) (k : ℕ) (s : RefT (List ℕ)) (a : ℕ) where
+  abbrev x : ℕ × (List ℕ × (ℕ × (RefT (List ℕ) × (ℕ × Unit {0}))))
+  x = (n, (marks, (k, (s, (a, tt)))))
 
   abbrev h : MarkRecord
-  h = record { n = n; marks = marks }
+  h = record { n = n; marks = marks; count = k }
 
   -- the machine value of the table
   abbrev v : Val
   v = sliceVal (s .ptr) (length (s .now))
 
-  abbrev at : List Val × (List Val × (List Val × (List Val × Unit {0})))
-  at = (vint w64 n ∷ [], (row-vals marks, (v ∷ [], (vint w64 a ∷ [], tt))))
+  abbrev at : List Val × (List Val × (List Val × (List Val × (List Val × Unit {0}))))
+  at = (vint w64 n ∷ [], (row-vals marks, (vint w64 k ∷ [], (v ∷ [], (vint w64 a ∷ [], tt)))))
 
   abbrev Post : Val → SProp 𝓤
   Post = walkOf 𝓤 H A numbers.ended stayed (numbers.clauses 𝓤 H A at-mem run) .post (((κ, tt), (q, tt), tt, x, at), tt)
@@ -181,97 +184,109 @@ module _ {M : Type 1} (𝓤 : URA M) (H : Heap 𝓤) (A : Atoms 𝓤) (W : Given
         fsplit ! $ show ! (Left r) (ws .0) $ keep ! (0 ∷ 2 ∷ []) $ done !)
 
   exits : (r : Picked) (u : Val) → PickAllows h (now s) a (r .answer) (r .«record») → Is N.the-row r (u ∷ [])
-      → a < 2 ^ 64 → n < 2 ^ 64 → ent 𝓤 (⋆ 𝓤 H A ((‵ (flft κ q) ⊛ ‵ ftrue) ∷ ‵ Own ∷ [])) (Post u)
-  exits r u e is a-fits n-fits =
+      → a < 2 ^ 64 → k < 2 ^ 64 → n < 2 ^ 64 → ent 𝓤 (⋆ 𝓤 H A ((‵ (flft κ q) ⊛ ‵ ftrue) ∷ ‵ Own ∷ [])) (Post u)
+  exits r u e is a-fits k-fits n-fits =
       qed W ((‵ (flft κ q) ⊛ ‵ ftrue) ∷ ‵ Own ∷ []) ∵
       suffices ! _ (ends-at 𝓤 H A numbers.ended stayed (numbers.clauses 𝓤 H A at-mem run) W
-      (((κ, tt), (q, tt), tt, x, at), tt) u r (tt, (tt, (tt, (tt, tt)))) (tt, (tt, (tt, (tt, tt))))) $
+      (((κ, tt), (q, tt), tt, x, at), tt) u r (tt, (tt, (tt, (tt, (tt, tt))))) (tt, (tt, (tt, (tt, (tt, tt)))))) $
       says ! e $ frame ! $ nothing ! $ owned ! u64 (Is u64) (uint-makes 𝓤 H A W w64) a _ (refl, a-fits) $
-      fjoin ! $ move ! (1 ∷ 0 ∷ []) $ fjoin ! $ nothing ! $ fjoin ! $
+      fjoin ! $ move ! (1 ∷ 0 ∷ []) $ fjoin ! $
+      owned ! u64 (Is u64) (uint-makes 𝓤 H A W w64) k _ (refl, k-fits) $ fjoin ! $ nothing ! $ fjoin ! $
       owned ! u64 (Is u64) (uint-makes 𝓤 H A W w64) n _ (refl, n-fits) $ fjoin ! $
       owned ! N.the-row (Is N.the-row) (LL.makes N.the-type N′.the-plain 𝓤 H A) r _ is $ move ! (1 ∷ 0 ∷ []) $ done !
 
-  h-is : Is u64 n (vint w64 n ∷ []) → Is (Array u64 8) marks (row-vals marks) → Is B h (mach h ∷ [])
-  h-is n-is marks-are =
-      LL.owes T.the-type T′.the-laws h (n-is, (subst (λ (ys : List ℕ). Is (Array u64 8) ys (row-vals ys)) (sym (map-id marks)) marks-are, tt))
+  h-is : Is u64 n (vint w64 n ∷ []) → Is (Array u64 8) marks (row-vals marks) → Is u64 k (vint w64 k ∷ []) → Is B h (mach h ∷ [])
+  h-is n-is marks-are k-is =
+      LL.owes T.the-type T′.the-laws h
+      (n-is, (subst (λ (ys : List ℕ). Is (Array u64 8) ys (row-vals ys)) (sym (map-id marks)) marks-are, (k-is, tt)))
 
-  -- the machine value that is built of the two numbers is the record's
-  built : vstruct (ofList (vint w64 n ∷ only (row-vals marks) ∷ [])) ≡ mach h
-  built = ap (λ (ys : List ℕ). vstruct (ofList (vint w64 n ∷ only (row-vals ys) ∷ []))) (sym (map-id marks))
+  -- the machine value that is built of N, marks and count is the record's
+  abbrev three : List ℕ → Val
+  three ys = vstruct (ofList (vint w64 n ∷ only (row-vals ys) ∷ vint w64 k ∷ []))
 
-  built-is : Is u64 n (vint w64 n ∷ []) → Is (Array u64 8) marks (row-vals marks)
-      → Is B h (vstruct (ofList (vint w64 n ∷ only (row-vals marks) ∷ [])) ∷ [])
-  built-is n-is marks-are = subst (λ (w : Val). Is B h (w ∷ [])) (sym built) (h-is n-is marks-are)
+  built : three marks ≡ mach h
+  built = ap three (sym (map-id marks))
+
+  built-is : Is u64 n (vint w64 n ∷ []) → Is (Array u64 8) marks (row-vals marks) → Is u64 k (vint w64 k ∷ []) → Is B h (three marks ∷ [])
+  built-is n-is marks-are k-is = subst (λ (w : Val). Is B h (w ∷ [])) (sym built) (h-is n-is marks-are k-is)
 
   abbrev outcome : PickAnswer → MarkRecord → Picked
   outcome r w = record { answer = r; «record» = w }
 
   module _ (C : Calls 𝓤 H) (Λ : Loops 𝓤 H) (fm : FmC 𝓤 H (W .laws) C) (known : Triple 𝓤 (C #picks·pick) (Lent 𝓤 H A at-mem run)) where
-    walk : Is u64 n (vint w64 n ∷ []) → Is (Array u64 8) marks (row-vals marks) → Is (ShrSlice (named 0) κ u16) s (v ∷ []) → a < 2 ^ 64
+    walk : Is u64 n (vint w64 n ∷ []) → Is (Array u64 8) marks (row-vals marks) → Is u64 k (vint w64 k ∷ [])
+        → Is (ShrSlice (named 0) κ u16) s (v ∷ []) → a < 2 ^ 64
         → ent 𝓤
         (onEntry 𝓤 H A numbers.signature (κ, tt) (q, tt) x at)
-        (WpFn 𝓤 H C Λ code.function (vint w64 n ∷ only (row-vals marks) ∷ v ∷ vint w64 a ∷ []) Post)
-    walk n-is marks-are p fits =
-        qed W ((‵ (flft κ q) ⊛ ‵ ftrue) ∷ ‵ (owns (u64 ∷ Array u64 8 ∷ ShrSlice (named 0) κ u16 ∷ u64 ∷ []) x at) ∷ []) ∵
-        enter ! C Λ code.function (vint w64 n ∷ only (row-vals marks) ∷ v ∷ vint w64 a ∷ []) _ $
+        (WpFn 𝓤 H C Λ code.function (vint w64 n ∷ only (row-vals marks) ∷ vint w64 k ∷ v ∷ vint w64 a ∷ []) Post)
+    walk n-is marks-are k-is p fits =
+        qed W ((‵ (flft κ q) ⊛ ‵ ftrue) ∷ ‵ (owns (u64 ∷ Array u64 8 ∷ u64 ∷ ShrSlice (named 0) κ u16 ∷ u64 ∷ []) x at) ∷ []) ∵
+        enter ! C Λ code.function (vint w64 n ∷ only (row-vals marks) ∷ vint w64 k ∷ v ∷ vint w64 a ∷ []) _ $
         alloc1 ! (λ l₀. alloc1 ! (λ l₁. alloc1 ! (λ l₂. alloc1 ! (λ l₃. alloc1 ! (λ l₄. alloc1 ! (λ l₅. alloc1 ! (λ l₆.
-        alloc1 ! (λ l₇. alloc1 ! (λ l₈. alloc0 ! $ params1 ! $ pass1 ! (init ! 14 refl (tt, record { fits = n-is .1 })) $
-        pass1 ! (init ! 12 refl (array-lawful 𝓤 H A W u64 (uint-lawful 𝓤 H A W w64) 8 .typed marks (row-vals marks) marks-are .0)) $
+        alloc1 ! (λ l₇. alloc1 ! (λ l₈. alloc1 ! (λ l₉. alloc0 ! $ params1 ! $ pass1 ! (init ! 16 refl (tt, record { fits = n-is .1 })) $
+        pass1 ! (init ! 14 refl (array-lawful 𝓤 H A W u64 (uint-lawful 𝓤 H A W w64) 8 .typed marks (row-vals marks) marks-are .0)) $
+        pass1 ! (init ! 12 refl (tt, record { fits = k-is .1 })) $
         pass1 ! (init ! 10 refl (shr-slice-lawful 𝓤 H A W (named 0) κ u16 .typed s (v ∷ []) p .0)) $
         pass1 ! (init ! 8 refl (tt, record { fits = fits })) $ pass0 ! $
-        move ! (19 ∷ []) $ fsplit ! $ drop ! $ fsplit ! $ drop ! $ fsplit ! $ move ! (1 ∷ []) $ drop ! $
-        -- [the table's; _8; …; _7; …; _6; …; room for _5; …; _4; …; _3; …; _2; …; _1; …; room for _0; …; the token]
-        assigns ! (agg ! (and-then ! (load ! (from ! (stop !)) (look ! 15 refl)) (and-then ! (load ! (from ! (stop !)) (look ! 13 refl)) (no-more !))))
-        (from ! (stop !)) (init ! 7 refl (LL.lawful T.the-type T′.the-laws 𝓤 H A W .typed h _ (built-is n-is marks-are) .0)) $
-        rewrite ! 7 (λ (w : Val). ‵ (fat fullShare T′.mir l₅ 0 w)) built refl $
+        move ! (21 ∷ []) $ fsplit ! $ drop ! $ fsplit ! $ drop ! $ fsplit ! $ drop ! $ fsplit ! $ move ! (1 ∷ []) $ drop ! $
+        -- [the table's; _9; …; _8; …; _7; …; room for _6; …; _5; …; _4; …; _3; …; _2; …; _1; …; room for _0; …; the token]
+        assigns ! (agg ! (and-then ! (load ! (from ! (stop !)) (look ! 17 refl)) (and-then ! (load ! (from ! (stop !)) (look ! 15 refl))
+        (and-then ! (load ! (from ! (stop !)) (look ! 13 refl)) (no-more !)))))
+        (from ! (stop !)) (init ! 7 refl (LL.lawful T.the-type T′.the-laws 𝓤 H A W .typed h _ (built-is n-is marks-are k-is) .0)) $
+        rewrite ! 7 (λ (w : Val). ‵ (fat fullShare T′.mir l₆ 0 w)) built refl $
         assigns ! (addr ! (from ! (stop !))) (from ! (stop !)) (init ! 3 refl (tt, tt)) $
         -- the record is lent for a new lifetime
-        owned ! B (Is B) (LL.makes T.the-type T′.the-plain 𝓤 H A) h _ (h-is n-is marks-are) $
-        move ! (8 ∷ 0 ∷ []) $ use2 W (‵ (mem B .lies h l₅ 0)) (lies-in 𝓤 H A W h l₅) $
+        owned ! B (Is B) (LL.makes T.the-type T′.the-plain 𝓤 H A) h _ (h-is n-is marks-are k-is) $
+        move ! (8 ∷ 0 ∷ []) $ use2 W (‵ (mem B .lies h l₆ 0)) (lies-in 𝓤 H A W h l₆) $
         lft-new ! tt (λ α. move ! (1 ∷ []) $
-        use1 W (later (some (λ (γ : GName). ‵ (MutRef (named 0) (α ∷ []) B .own (lending α l₅ γ) (vptr l₅ 0 ∷ []))
-        ⊛ ‵ (flent (α ∷ []) (Body (mem B) l₅ 0 γ)))))
-        (lends-ref 𝓤 H A W B (named 0) (α ∷ []) h l₅ 0) $ await ! tt $ pick ! (λ γ. split ! $
-        move ! (3 ∷ 21 ∷ []) $ join ! $ move ! (1 ∷ 3 ∷ 0 ∷ []) $
-        use3 W (raw (Lent 𝓤 H A at-mem run .pre (to α l₅ γ)) ⊛ ‵ Own) (apart α l₅ γ fits) $ split ! $
-        calls-at ! fm (Lent 𝓤 H A at-mem run) known (to α l₅ γ) (and-then ! (load ! (from ! (stop !)) (look ! 5 refl))
+        use1 W (later (some (λ (γ : GName). ‵ (MutRef (named 0) (α ∷ []) B .own (lending α l₆ γ) (vptr l₆ 0 ∷ []))
+        ⊛ ‵ (flent (α ∷ []) (Body (mem B) l₆ 0 γ)))))
+        (lends-ref 𝓤 H A W B (named 0) (α ∷ []) h l₆ 0) $ await ! tt $ pick ! (λ γ. split ! $
+        move ! (3 ∷ 23 ∷ []) $ join ! $ move ! (1 ∷ 3 ∷ 0 ∷ []) $
+        use3 W (raw (Lent 𝓤 H A at-mem run .pre (to α l₆ γ)) ⊛ ‵ Own) (apart α l₆ γ fits) $ split ! $
+        calls-at ! fm (Lent 𝓤 H A at-mem run) known (to α l₆ γ) (and-then ! (load ! (from ! (stop !)) (look ! 5 refl))
         (and-then ! (load ! (from ! (stop !)) (look ! 12 refl)) (and-then ! (load ! (from ! (stop !)) (look ! 10 refl)) (no-more !)))) (λ u.
         use1 W (later (some (λ (r : PickAnswer). ((‵ (flft (α ∷ []) fullShare) ⊛ ‵ (flft κ q) ⊛ ‵ ftrue) ⊛ ‵ (S.the-row .own r (u ∷ [])))
-        ⊛ raw (ensured 𝓤 H A lent.ended (lent.clauses 𝓤 H A at-mem run) (α ∷ [], (κ, tt)) (args α l₅ γ) tt r)))) (id⊢ 𝓤 _) $
+        ⊛ raw (ensured 𝓤 H A lent.ended (lent.clauses 𝓤 H A at-mem run) (α ∷ [], (κ, tt)) (args α l₆ γ) tt r)))) (id⊢ 𝓤 _) $
         await ! tt $ pick ! (λ r.
         split ! $ move ! (1 ∷ []) $
-        use1 W (some (λ (w : MarkRecord). ‵ (fres γ (B .coded .code w)) ⊛ raw (fact 𝓤 (PickAllows h (now s) a r w)))) (said α l₅ γ r) $
+        use1 W (some (λ (w : MarkRecord). ‵ (fres γ (B .coded .code w)) ⊛ raw (fact 𝓤 (PickAllows h (now s) a r w)))) (said α l₆ γ r) $
         pick ! (λ w. split ! $ move ! (1 ∷ []) $ heard ! (PickAllows h (now s) a r w) (λ e.
         -- [the last value; the tokens and what the answer owns; the table's; the lender's part;
-        -- _8; …; _7; …; room for _6; …; what frees _5; _4; …; _3; …; _2; …; _1; …; room for _0; …]
+        -- _9; …; _8; …; room for _7; …; what frees _6; _5; …; _4; …; _3; …; _2; …; _1; …; room for _0; …]
         move ! (1 ∷ []) $ split ! $ move ! (1 ∷ []) $ peeks ! S.the-row (Is S.the-row) (shows 𝓤 H A S.the-row) r (u ∷ []) (λ is. drop ! $
         land ! (from ! (stop !)) (init ! 8 refl (EL.lawful S.the-type S′.the-laws 𝓤 H A W tt .typed r _ is .0)) $
         -- the lifetime is ended, and the record is taken back
         split ! $ lft-end ! tt $ move ! (0 ∷ 4 ∷ 2 ∷ []) $
-        use3 W (later (‵ (mem B .lies w l₅ 0))) (ref-back 𝓤 H A W B (α ∷ []) γ w l₅ 0) $ await ! tt $
-        use1 W (‵ (fat fullShare T′.mir l₅ 0 (mach w)) ⊛ ‵ (B .own w (mach w ∷ []))) (lies-out 𝓤 H A W w l₅) $
+        use3 W (later (‵ (mem B .lies w l₆ 0))) (ref-back 𝓤 H A W B (α ∷ []) γ w l₆ 0) $ await ! tt $
+        use1 W (‵ (fat fullShare T′.mir l₆ 0 (mach w)) ⊛ ‵ (B .own w (mach w ∷ []))) (lies-out 𝓤 H A W w l₆) $
         split ! $ move ! (1 ∷ []) $ peeks ! B (Is B) (shows 𝓤 H A B) w (mach w ∷ []) (λ w-is. drop ! $
-        -- [_5; the token; the table's; room for _8; …; _7; …; _6; …; what frees _5; _4; …; _3; …; _2; …; _1; …; room for _0; …]
+        -- [_6; the token; the table's; room for _9; …; _8; …; _7; …; what frees _6; _5; …; _4; …; _3; …; _2; …; _1; …; room for _0; …]
         assigns ! (of-opd ! (load ! (from ! (stop !)) (look ! 0 refl))) (from ! (stop !))
         (init ! 3 refl (LL.lawful T.the-type T′.the-laws 𝓤 H A W .typed w _ w-is .0)) $
         assigns ! (agg ! (and-then ! (load ! (from ! (stop !)) (look ! 7 refl)) (and-then ! (load ! (from ! (stop !)) (look ! 3 refl)) (no-more !))))
-        (from ! (stop !)) (init ! 18 refl (LL.lawful N.the-type N′.the-laws 𝓤 H A W .typed (outcome r w) _ (picked-is (outcome r w) u is w-is) .0)) $
-        returns ! (look ! 18 refl) $ forget ! 0 refl $ forget ! 3 refl $ forget ! 5 refl $ forget ! 7 refl $
-        forget ! 10 refl $ forget ! 12 refl $ forget ! 14 refl $ forget ! 16 refl $ forget ! 18 refl $
-        move ! (18 ∷ 19 ∷ []) $ free1 ! $ move ! (16 ∷ 17 ∷ []) $ free1 ! $ move ! (14 ∷ 15 ∷ []) $ free1 ! $
+        (from ! (stop !)) (init ! 20 refl (LL.lawful N.the-type N′.the-laws 𝓤 H A W .typed (outcome r w) _ (picked-is (outcome r w) u is w-is) .0)) $
+        returns ! (look ! 20 refl) $ forget ! 0 refl $ forget ! 3 refl $ forget ! 5 refl $ forget ! 7 refl $
+        forget ! 10 refl $ forget ! 12 refl $ forget ! 14 refl $ forget ! 16 refl $ forget ! 18 refl $ forget ! 20 refl $
+        move ! (20 ∷ 21 ∷ []) $ free1 ! $ move ! (18 ∷ 19 ∷ []) $ free1 ! $ move ! (16 ∷ 17 ∷ []) $ free1 ! $ move ! (14 ∷ 15 ∷ []) $ free1 ! $
         move ! (12 ∷ 13 ∷ []) $ free1 ! $ move ! (10 ∷ 11 ∷ []) $ free1 ! $ move ! (0 ∷ 9 ∷ []) $ free1 ! $
         move ! (6 ∷ 7 ∷ []) $ free1 ! $ move ! (4 ∷ 5 ∷ []) $ free1 ! $ move ! (2 ∷ 3 ∷ []) $ free1 ! $ free0 ! $
-        keep ! (0 ∷ 1 ∷ []) $ by ! (exits (outcome r w) _ e (picked-is (outcome r w) u is w-is) fits (n-is .1)))))))))))))))))))
+        keep ! (0 ∷ 1 ∷ []) $ by ! (exits (outcome r w) _ e (picked-is (outcome r w) u is w-is) fits (k-is .1) (n-is .1))))))))))))))))))))
 
 module _ {M : Type 1} (𝓤 : URA M) (H : Heap 𝓤) (A : Atoms 𝓤) (W : Given 𝓤 H A) (mem : Memory → SProp 𝓤) (run : Routine → Fun 𝓤) where
   numbers-walks : (C : Calls 𝓤 H) (Λ : Loops 𝓤 H) → FmC 𝓤 H (W .laws) C → Triple 𝓤 (C #picks·pick) (Lent 𝓤 H A mem run)
       → Walks 𝓤 H A numbers.ended stayed (WpFn 𝓤 H C Λ code.function) (numbers.clauses 𝓤 H A mem run)
   numbers-walks C Λ fm known =
       walked 𝓤 H A numbers.ended stayed
-      (numbers.clauses 𝓤 H A mem run) (WpFn 𝓤 H C Λ code.function) (λ κs. (uint-vals w64, (row-vals, (slice-vals, (uint-vals w64, tt)))))
-      (λ κs. (uint-tells w64, (array-tells u64 (uint-vals w64) (uint-tells w64) 8, (shr-slice-tells (named 0) (κs .0) u16, (uint-tells w64, tt)))))
+      (numbers.clauses 𝓤 H A mem run) (WpFn 𝓤 H C Λ code.function)
+      (λ κs. (uint-vals w64, (row-vals, (uint-vals w64, (slice-vals, (uint-vals w64, tt))))))
+      (λ κs. (
+        uint-tells w64,
+        (array-tells u64 (uint-vals w64) (uint-tells w64) 8, (uint-tells w64, (shr-slice-tells (named 0) (κs .0) u16, (uint-tells w64, tt)))),
+      ))
       (λ κs qs bounds a g are. via 𝓤 _ (fst∗ 𝓤 _ (emp 𝓤)) (walk 𝓤 H A W mem run
-      (κs .0) (qs .0) (a .0) (a .1 .0) (a .1 .1 .0) (a .1 .1 .1 .0) C Λ fm known (are .0) (are .1 .0) (are .1 .1 .0) (are .1 .1 .1 .0 .1)))
+      (κs .0) (qs .0) (a .0) (a .1 .0) (a .1 .1 .0) (a .1 .1 .1 .0) (a .1 .1 .1 .1 .0) C Λ fm known
+      (are .0) (are .1 .0) (are .1 .1 .0) (are .1 .1 .1 .0) (are .1 .1 .1 .1 .0 .1)))
 
 numbers-meets : {M : Type 1} (𝓤 : URA M) (H : Heap 𝓤) (A : Atoms 𝓤) (W : Given 𝓤 H A)
     (mem : Memory → SProp 𝓤) (run : Routine → Fun 𝓤) (𝓣 : Tables 𝓤 H)
@@ -282,7 +297,10 @@ numbers-meets 𝓤 H A W mem run 𝓣 known =
       goes-none 𝓤 H A W 1 (λ _. u64) yes (λ κs x f. refl),
       (
         goes-dropped 𝓤 H A W 1 (ArrayOf (plain (λ _. u64)) (λ _. tt) 8) yes (λ κs x f. refl),
-        (goes-none-slice 𝓤 H A W 1 (0 ∷ []) tt (plain (λ _. u16)) yes, (goes-none 𝓤 H A W 1 (λ _. u64) yes (λ κs x f. refl), tt)),
+        (
+          goes-none 𝓤 H A W 1 (λ _. u64) yes (λ κs x f. refl),
+          (goes-none-slice 𝓤 H A W 1 (0 ∷ []) tt (plain (λ _. u16)) yes, (goes-none 𝓤 H A W 1 (λ _. u64) yes (λ κs x f. refl), tt)),
+        ),
       ),
     )
     (numbers.clauses 𝓤 H A mem run) (WpFn 𝓤 H (𝓣 .C) (𝓣 .Λ) code.function) (WpFn-mono 𝓤 H (W .laws) 𝓣 code.function)

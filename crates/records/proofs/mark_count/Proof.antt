@@ -17,25 +17,9 @@ returns c =
 enum-told : tie.Need-enum-told
 enum-told c = search needs
 
-slice-aggregate-count : tie.Need-slice-aggregate-count
-slice-aggregate-count c = search needs
-
-count-requires : tie.Need-count-requires
-count-requires c κs = search needs
-
 returns-2 : tie.Need-returns-2
-returns-2 c =
-    let at-record-fault = c .before .before .before .before .before .record-fault in
-    rw (c .count .ensures) (CountAllows.counted (sym (at-record-fault .ensures) ∙ c .before .before .before .enum-told .given .1))
+returns-2 c = CountAllows.counted (sym (c .before .before .record-fault .ensures) ∙ c .enum-told .given .1)
 
 pub mark-count-spec : {M : Type 1} → statement M
 mark-count-spec =
-    tie.close
-    (tie.spec
-    record-fault-requires
-    enum-known-r
-    returns
-    enum-told
-    slice-aggregate-count
-    count-requires
-    returns-2)
+    tie.close (tie.spec record-fault-requires enum-known-r returns enum-told returns-2)
