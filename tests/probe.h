@@ -10,8 +10,10 @@
  * and crates/probe/src/lib.rt the proved promises.
  *
  * Every number of 64 bits may be handed as a truth code, N or atom. A table is 16-bit words and how many; with 0 of them any
- * pointer is taken, NULL too. A record is N and eight words of 64 marks: atom a is bit a mod 64, lowest first, of word
- * a div 64. `marks` points to exactly eight words. Nothing past the ends given here is read or written.
+ * pointer is taken, NULL too. A record is N, eight words of 64 marks and the count of the marks as stored, any 64-bit number:
+ * atom a is bit a mod 64, lowest first, of word a div 64. `marks` points to exactly eight words, `n` and `count` to one number
+ * each. A record is refused by 17 if it has a mark at N or above, or if its count is not the number of its marks. Nothing past
+ * the ends given here is read or written.
  */
 #ifndef PROBE_H
 #define PROBE_H
@@ -34,24 +36,24 @@ uint64_t probe_implication(uint64_t body, uint64_t head);
 /* 0: accepted; refuses 1, 2, then words (4, 5, 6, 7). */
 uint64_t probe_check(uint64_t n, const uint16_t *table, size_t words);
 
-/* 0: `*n` and `marks` are a fresh record for `asked`; refuses 1, and they are then N 0 and no marks. */
-uint64_t probe_fresh(uint64_t asked, uint64_t *n, uint64_t marks[8]);
+/* 0: `*n`, `marks` and `*count` are a fresh record for `asked`; refuses 1, and they are then N 0, no marks and count 0. */
+uint64_t probe_fresh(uint64_t asked, uint64_t *n, uint64_t marks[8], uint64_t *count);
 
-/* 0: marked, 1: already marked, 2: cannot be marked now; refuses 1, 17, 2, words, 16. `*n` and `marks` are the record
- * afterwards. */
-uint64_t probe_pick(uint64_t *n, uint64_t marks[8], const uint16_t *table, size_t words, uint64_t atom);
+/* 0: marked, 1: already marked, 2: cannot be marked now; refuses 1, 17, 2, words, 16. `*n`, `marks` and `*count` are the record
+ * afterwards: one mark and one in the count more after 0, as it was after all else. */
+uint64_t probe_pick(uint64_t *n, uint64_t marks[8], uint64_t *count, const uint16_t *table, size_t words, uint64_t atom);
 
 /* 0: no, 1: yes; refuses 1, 17, 2, words. */
-uint64_t probe_settled(uint64_t n, const uint64_t marks[8], const uint16_t *table, size_t words);
+uint64_t probe_settled(uint64_t n, const uint64_t marks[8], uint64_t count, const uint16_t *table, size_t words);
 
 /* 0: the first N bytes of `values` are the values; refuses 1, 17, 2, 3, words, 18. */
-uint64_t probe_report(uint64_t n, const uint64_t marks[8], const uint16_t *table, size_t words,
+uint64_t probe_report(uint64_t n, const uint64_t marks[8], uint64_t count, const uint16_t *table, size_t words,
                       uint8_t *values, size_t values_len);
 
-/* The number of marks; refuses 1, 17. */
-uint64_t probe_mark_count(uint64_t n, const uint64_t marks[8]);
+/* The stored number of marks, at most 512; refuses 1, 17. */
+uint64_t probe_mark_count(uint64_t n, const uint64_t marks[8], uint64_t count);
 
-/* 0: the first N bytes of `values` are the values; refuses 1, 2, 3, words, 19. */
+/* 0: the first N bytes of `values` are the values; refuses 1, 2, 3, words. */
 uint64_t probe_evaluate(uint64_t n, const uint16_t *table, size_t words, uint8_t *values, size_t values_len);
 
 /* 0: no, 1: yes; refuses 1, 2, words. */
@@ -72,7 +74,7 @@ uint64_t probe_reading(const uint8_t *sheet, size_t sheet_len, size_t *place, si
 uint64_t probe_reader(const uint8_t *sheet, size_t sheet_len, size_t *place, size_t *start, size_t *len,
                       uint64_t *seen, size_t *seen_start, size_t *seen_len);
 
-/* The value sheet's length; refuses 8, 9, literals (10 to 14 and 7), 19, 15. `*atoms` and `*filled` are N and the words
+/* The value sheet's length; refuses 8, 9, literals (10 to 14 and 7), 15. `*atoms` and `*filled` are N and the words
  * filled, 0 after a refusal. Buffer lengths are in entries. */
 uint64_t probe_sheet(const uint8_t *sheet, size_t sheet_len, uint16_t *words, size_t words_len,
                      uint32_t *names, size_t names_len, uint8_t *text, size_t text_len,

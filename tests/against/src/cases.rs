@@ -1,7 +1,7 @@
 //! How many cases to run, and what they met.
 
 use std::collections::BTreeMap;
-use std::fmt::{self, Debug};
+use std::fmt::{self, Debug, Display};
 
 use second::refusal::Refusal;
 
@@ -17,11 +17,18 @@ fn factor() -> u64 {
     }
 }
 
+fn once_more(met: &mut BTreeMap<String, u64>, what: &str) {
+    match met.get_mut(what) {
+        Some(times) => *times += 1,
+        None => drop(met.insert(what.to_string(), 1)),
+    }
+}
+
 /// How often each outcome was met, and what a case was beside its outcome.
 #[derive(Clone, Default)]
 pub struct Tally {
     met: BTreeMap<String, u64>,
-    also: BTreeMap<&'static str, u64>,
+    also: BTreeMap<String, u64>,
 }
 
 impl Debug for Tally {
@@ -37,10 +44,7 @@ impl Debug for Tally {
 
 impl Tally {
     pub fn note(&mut self, outcome: &str) {
-        match self.met.get_mut(outcome) {
-            Some(times) => *times += 1,
-            None => drop(self.met.insert(outcome.to_string(), 1)),
-        }
+        once_more(&mut self.met, outcome);
     }
 
     /// Notes "what ok", or "what N" for refusal N.
@@ -52,8 +56,8 @@ impl Tally {
     }
 
     /// Notes something of a case that is no outcome.
-    pub fn also(&mut self, what: &'static str) {
-        *self.also.entry(what).or_insert(0) += 1;
+    pub fn also(&mut self, what: &str) {
+        once_more(&mut self.also, what);
     }
 
     pub fn times(&self, outcome: &str) -> u64 {
@@ -77,10 +81,10 @@ impl Tally {
     }
 
     /// Cases that were each of these were met so many times.
-    pub fn expect_also(&self, least: &[(&str, u64)]) {
+    pub fn expect_also<T: AsRef<str> + Display>(&self, least: &[(T, u64)]) {
         println!("among them {:?}", self.also);
         for (what, least) in least {
-            let times = self.also.get(what).copied().unwrap_or(0);
+            let times = self.also.get(what.as_ref()).copied().unwrap_or(0);
             assert!(times >= *least, "'{what}' was met {times} times, not {least}: {self:#?}");
         }
     }

@@ -27,11 +27,19 @@ unsafe extern "C" {
     safe fn probe_not(v: u64) -> u64;
     safe fn probe_implication(body: u64, head: u64) -> u64;
     fn probe_check(n: u64, table: *const u16, words: usize) -> u64;
-    fn probe_fresh(asked: u64, n: *mut u64, marks: *mut u64) -> u64;
-    fn probe_pick(n: *mut u64, marks: *mut u64, table: *const u16, words: usize, atom: u64) -> u64;
-    fn probe_settled(n: u64, marks: *const u64, table: *const u16, words: usize) -> u64;
-    fn probe_report(n: u64, marks: *const u64, table: *const u16, words: usize, values: *mut u8, room: usize) -> u64;
-    fn probe_mark_count(n: u64, marks: *const u64) -> u64;
+    fn probe_fresh(asked: u64, n: *mut u64, marks: *mut u64, count: *mut u64) -> u64;
+    fn probe_pick(n: *mut u64, marks: *mut u64, count: *mut u64, table: *const u16, words: usize, atom: u64) -> u64;
+    fn probe_settled(n: u64, marks: *const u64, count: u64, table: *const u16, words: usize) -> u64;
+    fn probe_report(
+        n: u64,
+        marks: *const u64,
+        count: u64,
+        table: *const u16,
+        words: usize,
+        values: *mut u8,
+        room: usize,
+    ) -> u64;
+    fn probe_mark_count(n: u64, marks: *const u64, count: u64) -> u64;
     fn probe_evaluate(n: u64, table: *const u16, words: usize, values: *mut u8, room: usize) -> u64;
     fn probe_conflict(n: u64, table: *const u16, words: usize) -> u64;
     fn probe_which_group(n: u64, table: *const u16, words: usize, set: *const u64, set_words: usize) -> u64;
@@ -73,27 +81,48 @@ pub fn which_group_nulls(n: u64, words: &[u16]) -> Answer {
     unpacked(unsafe { probe_which_group(n, table, words.len(), std::ptr::null(), 0) })
 }
 
+/// The mark count, lent this very record; so are the settled question and the pick below.
+pub fn mark_count(record: &MarkRecord) -> Answer {
+    unpacked(unsafe { probe_mark_count(record.n, record.marks.as_ptr(), record.count) })
+}
+
+pub fn settled(record: &MarkRecord, words: &[u16]) -> Answer {
+    unpacked(unsafe { probe_settled(record.n, record.marks.as_ptr(), record.count, words.as_ptr(), words.len()) })
+}
+
+pub fn pick(record: &mut MarkRecord, words: &[u16], atom: u64) -> Answer {
+    let MarkRecord { n, marks, count } = record;
+    unpacked(unsafe { probe_pick(n, marks.as_mut_ptr(), count, words.as_ptr(), words.len(), atom) })
+}
+
 /// The proved engine.
 #[derive(Clone, Copy, Debug)]
 pub struct Engine;
 
-/// N and marks as they are lent, with guards around both.
+/// N, marks and count as they are lent, with guards around each.
 struct Lent {
     n: Guarded<u64>,
     marks: Guarded<u64>,
+    count: Guarded<u64>,
 }
 
 impl Lent {
     fn new(record: &MarkRecord) -> Lent {
-        Lent { n: Guarded::new(&[record.n], 2), marks: Guarded::new(&record.marks, 2) }
+        Lent { n: Guarded::new(&[record.n], 2), marks: Guarded::new(&record.marks, 2), count: Guarded::new(&[record.count], 2) }
     }
 
     fn record(&self) -> MarkRecord {
         self.n.check();
         self.marks.check();
+        self.count.check();
         let mut marks = [0; 8];
         marks.copy_from_slice(self.marks.row());
-        MarkRecord { n: self.n.row()[0], marks }
+        MarkRecord { n: self.n.row()[0], marks, count: self.count.row()[0] }
+    }
+
+    /// Where N, the marks and the count stand, to be written.
+    fn places(&mut self) -> [*mut u64; 3] {
+        [&mut self.n, &mut self.marks, &mut self.count].map(|lent| lent.row_mut().as_mut_ptr())
     }
 
     /// Stops if the record was altered.
@@ -126,22 +155,24 @@ impl Entries for Engine {
 
     fn fresh(&self, n: u64) -> (MarkRecord, Answer) {
         // Whatever stood there before is gone.
-        let mut lent = Lent::new(&MarkRecord { n: !n, marks: [!0; 8] });
-        let answer = unsafe { probe_fresh(n, lent.n.row_mut().as_mut_ptr(), lent.marks.row_mut().as_mut_ptr()) };
+        let mut lent = Lent::new(&MarkRecord { n: !n, marks: [!0; 8], count: !n });
+        let [to_n, marks, count] = lent.places();
+        let answer = unsafe { probe_fresh(n, to_n, marks, count) };
         (lent.record(), unpacked(answer))
     }
 
     fn pick(&self, record: &mut MarkRecord, words: &[u16], atom: u64) -> Answer {
         let mut lent = Lent::new(record);
-        let (n, marks) = (lent.n.row_mut().as_mut_ptr(), lent.marks.row_mut().as_mut_ptr());
-        let answer = unsafe { probe_pick(n, marks, words.as_ptr(), words.len(), atom) };
+        let [n, marks, count] = lent.places();
+        let answer = unsafe { probe_pick(n, marks, count, words.as_ptr(), words.len(), atom) };
         *record = lent.record();
         unpacked(answer)
     }
 
     fn settled(&self, record: &MarkRecord, words: &[u16]) -> Answer {
         let lent = Lent::new(record);
-        let answer = unsafe { probe_settled(record.n, lent.marks.row().as_ptr(), words.as_ptr(), words.len()) };
+        let marks = lent.marks.row().as_ptr();
+        let answer = unsafe { probe_settled(record.n, marks, record.count, words.as_ptr(), words.len()) };
         lent.unaltered(record);
         unpacked(answer)
     }
@@ -151,7 +182,7 @@ impl Entries for Engine {
         let mut room = Guarded::new(values, 13);
         let (to, length) = (room.row_mut().as_mut_ptr(), values.len());
         let marks = lent.marks.row().as_ptr();
-        let answer = unsafe { probe_report(record.n, marks, words.as_ptr(), words.len(), to, length) };
+        let answer = unsafe { probe_report(record.n, marks, record.count, words.as_ptr(), words.len(), to, length) };
         lent.unaltered(record);
         room.check();
         values.copy_from_slice(room.row());
@@ -160,7 +191,7 @@ impl Entries for Engine {
 
     fn mark_count(&self, record: &MarkRecord) -> Answer {
         let lent = Lent::new(record);
-        let answer = unsafe { probe_mark_count(record.n, lent.marks.row().as_ptr()) };
+        let answer = unsafe { probe_mark_count(record.n, lent.marks.row().as_ptr(), record.count) };
         lent.unaltered(record);
         unpacked(answer)
     }

@@ -1,5 +1,6 @@
 //! Smaller inputs on which a test still fails.
 
+use second::marking::MarkRecord;
 use second::random::head_places;
 use second::table::{Record, encode, parse};
 
@@ -47,6 +48,34 @@ pub fn fewer_bits(words: &[u64], mut fails: impl FnMut(&[u64]) -> bool) -> Vec<u
         }
     }
     words
+}
+
+/// A record without the marks that the failure does not need, with a smaller N, and with its count right or smaller.
+pub fn smaller_record(record: MarkRecord, mut fails: impl FnMut(MarkRecord) -> bool) -> MarkRecord {
+    let mut best = fewer_marks(record, &mut fails);
+    best.n = smaller(best.n, |n| fails(MarkRecord { n, ..best }));
+    let right = MarkRecord::counted(best.n, best.marks);
+    if fails(right) {
+        return right;
+    }
+    best.count = smaller(best.count, |count| fails(MarkRecord { count, ..best }));
+    // N and the count together, as it may matter that they are equal.
+    let least = best.n.min(best.count);
+    let lower = |by: u64| MarkRecord { n: best.n - by, count: best.count - by, ..best };
+    lower(least - smaller(least, |kept| fails(lower(least - kept))))
+}
+
+/// While marks go the count goes with them, so that it stays as right or as wrong as it is; then more marks go alone.
+fn fewer_marks(record: MarkRecord, mut fails: impl FnMut(MarkRecord) -> bool) -> MarkRecord {
+    let row = |marks: &[u64]| -> [u64; 8] { marks.try_into().expect("eight words") };
+    let apart = record.count.wrapping_sub(record.number_of_marks());
+    let with_count = |marks: &[u64]| {
+        let counted = MarkRecord::counted(record.n, row(marks));
+        MarkRecord { count: counted.count.wrapping_add(apart), ..counted }
+    };
+    let best = with_count(&fewer_bits(&record.marks, |marks| fails(with_count(marks))));
+    let marks = fewer_bits(&best.marks, |marks| fails(MarkRecord { marks: row(marks), ..best }));
+    MarkRecord { marks: row(&marks), ..best }
 }
 
 /// A table without the records, groups, literals, lines and words that the failure does not need.

@@ -9,8 +9,8 @@ use second::table;
 
 use crate::cases::Tally;
 use crate::entries::{ALREADY_MARKED, Answer, Entries, MARKED, Second};
-use crate::shrink::{fewer_bits, smaller, smaller_table, without_parts};
-use crate::tables;
+use crate::shrink::{fewer_bits, smaller, smaller_record, smaller_table, without_parts};
+use crate::{records, tables};
 
 /// One call; a table is named by its number in the trace.
 #[derive(Clone, Debug, PartialEq, Eq)]
@@ -30,7 +30,7 @@ pub enum Step {
     Count,
 }
 
-/// Tables, and calls that lend them; the record starts with N 0 and no marks.
+/// Tables, and calls that lend them; the record starts with N 0, no marks and count 0.
 #[derive(Clone, Debug, PartialEq, Eq)]
 pub struct Trace {
     pub tables: Vec<Vec<u16>>,
@@ -56,12 +56,13 @@ pub struct Parting {
     pub what: String,
 }
 
-/// Replays a trace on an engine and on the second implementation; the first difference in an answer, the record or the
-/// value room, if there is one.
+/// Replays a trace on an engine and on the second implementation; the first difference in an answer, the record (its count too) or
+/// the value room, if there is one.
 pub fn parting(trace: &Trace, engine: &impl Entries, tally: &mut Tally) -> Option<Parting> {
     let (mut ours, mut theirs) = (MarkRecord::EMPTY, MarkRecord::EMPTY);
     for (i, step) in trace.steps.iter().enumerate() {
         let differs = |what: String| Some(Parting { step: i, what });
+        let lent = theirs;
         let (left, right) = match *step {
             Step::Fresh(n) => {
                 let (left, right);
@@ -84,12 +85,14 @@ pub fn parting(trace: &Trace, engine: &impl Entries, tally: &mut Tally) -> Optio
                     Ok(_) => tally.note("pick cannot be marked now"),
                     Err(_) => tables::note(tally, "pick", words, &right),
                 }
+                records::note(tally, "pick", &lent, &right, |mut record| Second.pick(&mut record, words, atom));
                 (left, right)
             }
             Step::Settled { table } => {
                 let words = &trace.tables[table];
                 let right = Second.settled(&theirs, words);
                 tables::note_question(tally, "settled", words, &right);
+                records::note(tally, "settled", &lent, &right, |record| Second.settled(&record, words));
                 (engine.settled(&ours, words), right)
             }
             Step::Conflict { n, table } => {
@@ -111,6 +114,7 @@ pub fn parting(trace: &Trace, engine: &impl Entries, tally: &mut Tally) -> Optio
                 let left = engine.report(&ours, words, &mut values);
                 let right = Second.report(&theirs, words, &mut expected);
                 tables::note(tally, "report", words, &right);
+                records::note(tally, "report", &lent, &right, |record| Second.report(&record, words, &mut vec![0; room]));
                 if values != expected {
                     return differs(format!("value room: {values:?}, not {expected:?}"));
                 }
@@ -119,6 +123,7 @@ pub fn parting(trace: &Trace, engine: &impl Entries, tally: &mut Tally) -> Optio
             Step::Count => {
                 let right = Second.mark_count(&theirs);
                 tally.answer("count", &right);
+                records::note(tally, "count", &lent, &right, |record| Second.mark_count(&record));
                 (engine.mark_count(&ours), right)
             }
         };
@@ -140,7 +145,7 @@ pub fn assert_together(trace: &Trace, engine: &impl Entries, tally: &mut Tally, 
     }
 }
 
-/// A trace that still parts, of which no step, no word and no mark can be left out.
+/// A trace that still parts, of which no step, no word and no mark can be left out, nor a wrong count put right.
 pub fn shortest(trace: &Trace, first: Parting, engine: &impl Entries) -> (Trace, Parting) {
     let parts = |trace: &Trace| parting(trace, engine, &mut Tally::default());
     let mut best = trace.clone();
@@ -151,6 +156,7 @@ pub fn shortest(trace: &Trace, first: Parting, engine: &impl Entries) -> (Trace,
         best.steps = without_parts(&best.steps, |steps| {
             parts(&Trace { tables: tables.clone(), steps: steps.to_vec() }).is_some()
         });
+        best.steps = from_a_record(&best, |trace| parts(trace).is_some());
         for table in 0..best.tables.len() {
             let mut tried = best.clone();
             best.tables[table] = smaller_table(&best.tables[table], |words| {
@@ -168,6 +174,28 @@ pub fn shortest(trace: &Trace, first: Parting, engine: &impl Entries) -> (Trace,
     }
 }
 
+/// The steps with those in front, as many as can, replaced by the record that the second implementation reaches with them.
+fn from_a_record(trace: &Trace, mut fails: impl FnMut(&Trace) -> bool) -> Vec<Step> {
+    let with_record = |at: usize| [&[Step::Forge(reached(trace, at))], &trace.steps[at..]].concat();
+    let shorter = (2..trace.steps.len()).rev().map(with_record);
+    let mut failing = shorter.filter(|steps| fails(&Trace { tables: trace.tables.clone(), steps: steps.clone() }));
+    failing.next().unwrap_or_else(|| trace.steps.clone())
+}
+
+/// The record after so many steps, by the second implementation.
+fn reached(trace: &Trace, steps: usize) -> MarkRecord {
+    let mut record = MarkRecord::EMPTY;
+    for step in &trace.steps[..steps] {
+        match *step {
+            Step::Fresh(n) => record = Second.fresh(n).0,
+            Step::Forge(forged) => record = forged,
+            Step::Pick { table, atom } => drop(Second.pick(&mut record, &trace.tables[table], atom)),
+            _ => {}
+        }
+    }
+    record
+}
+
 /// Makes the numbers of a step smaller, as far as it goes.
 fn simplify(trace: &mut Trace, step: usize, mut fails: impl FnMut(&Trace) -> bool) {
     let mut with = |changed: Step| {
@@ -177,11 +205,7 @@ fn simplify(trace: &mut Trace, step: usize, mut fails: impl FnMut(&Trace) -> boo
     };
     let simpler = match trace.steps[step] {
         Step::Fresh(n) => Step::Fresh(smaller(n, |n| with(Step::Fresh(n)))),
-        Step::Forge(MarkRecord { n, marks }) => {
-            let forge = |n: u64, marks: &[u64]| Step::Forge(MarkRecord { n, marks: marks.try_into().expect("eight words") });
-            let marks = fewer_bits(&marks, |marks| with(forge(n, marks)));
-            forge(smaller(n, |n| with(forge(n, &marks))), &marks)
-        }
+        Step::Forge(record) => Step::Forge(smaller_record(record, |record| with(Step::Forge(record)))),
         Step::Pick { table, atom } => {
             Step::Pick { table, atom: smaller(atom, |atom| with(Step::Pick { table, atom })) }
         }
@@ -260,25 +284,27 @@ fn any_n(chance: &mut Chance, n: u64) -> u64 {
     if chance.one_in(6) { random::awkward_number(chance, n) } else { n }
 }
 
-/// A record by hand: any, refused ones among them; the settled one of the table, or a part of it.
+/// A record by hand: any, refused ones among them; the settled one of the table, or a part of it, now and then with another count.
 fn forged(chance: &mut Chance, n: u64, words: &[u16]) -> MarkRecord {
     match table::rules_of(n, words) {
         Ok(rules) if n <= 512 && chance.one_in(2) => {
-            let marked = model::settle(n, &rules).expect("N marks settle");
-            let mut record = MarkRecord { n, marks: [0; 8] };
+            let marked = model::settle(n, &rules);
+            let mut marks = [0; 8];
             let kept = chance.of(&[100, 100, 95, 50]);
             for atom in (0..n as usize).filter(|&atom| marked[atom]) {
                 if chance.percent(kept) {
-                    record.marks[atom / 64] |= 1 << (atom % 64);
+                    marks[atom / 64] |= 1 << (atom % 64);
                 }
             }
-            record
+            let record = MarkRecord::counted(n, marks);
+            if chance.one_in(6) { MarkRecord { count: random::awkward_number(chance, record.count), ..record } } else { record }
         }
         _ => random::any_record(chance, n),
     }
 }
 
-/// Picks all atoms in passes, each in an order of its own, until the engine says settled; the passes and the record.
+/// Picks all atoms in passes, each in an order of its own, until the engine says settled; the passes and the record. After each pick the
+/// count is the number of marks, and one more exactly if the pick marked.
 pub fn passes_until_settled(engine: &impl Entries, n: u64, words: &[u16], chance: &mut Chance) -> (u64, MarkRecord) {
     let (mut record, answer) = engine.fresh(n);
     assert_eq!(answer, Ok(0));
@@ -288,7 +314,11 @@ pub fn passes_until_settled(engine: &impl Entries, n: u64, words: &[u16], chance
         chance.shuffle(&mut atoms);
         let mut marked = false;
         for &atom in &atoms {
-            marked |= engine.pick(&mut record, words, atom) == Ok(MARKED);
+            let before = record.count;
+            let made = engine.pick(&mut record, words, atom) == Ok(MARKED);
+            assert_eq!(record.count, before + u64::from(made), "N {n}, words {words:?}");
+            assert_eq!(record.count, record.number_of_marks(), "N {n}, words {words:?}");
+            marked |= made;
         }
         assert!(marked, "a pass before settled marks at least one");
         passes += 1;

@@ -1,7 +1,7 @@
 //! Engines that are wrong on purpose part from the second implementation in random traces, or on random sheets, and these shrink.
 
 use against::cases::Tally;
-use against::entries::{ALREADY_MARKED, Answer, Entries, FACT, MARKED, NO, NO_GROUP, NO_RECORD, Second, YES};
+use against::entries::{ALREADY_MARKED, Answer, CANNOT_BE_MARKED_NOW, Entries, FACT, MARKED, NO, NO_GROUP, NO_RECORD, Second, YES};
 use against::trace::{Plan, Trace, parting, random_trace, shortest};
 use second::marking::MarkRecord;
 use second::random::{self, Chance, WordRole, head_places, line_places, word_roles};
@@ -9,7 +9,8 @@ use second::refusal::Refusal;
 use second::table::Literal;
 use second::truth::I;
 
-/// Wrong answers of marking by picks, of reading the words of a table, to the question of conflict, and to which group is wholly in a set.
+/// Wrong answers of marking by picks and of the count, of reading the words of a table, to the question of conflict, and to which group is
+/// wholly in a set.
 #[derive(Clone, Copy, Debug, PartialEq, Eq)]
 enum Wrong {
     PickNeverMarks,
@@ -22,6 +23,29 @@ enum Wrong {
     AtomBeforeWords,
     MarksPastNForgotten,
     RefusedFreshKeepsN,
+    MarkedAndNotCounted,
+    CountedAndNotMarked,
+    CountedTwice,
+    AlreadyMarkedIsCounted,
+    CannotBeMarkedIsCounted,
+    RefusedPickIsCounted,
+    FreshWithCount1,
+    RefusedFreshWithCount1,
+    CountOneAboveTaken,
+    CountOneBelowTaken,
+    CountSeenIn32Bits,
+    CountNTakenForSettled,
+    WrongCountRepaired,
+    WrongCountPutRightByARefusal,
+    BitsOfAWrongCountCounted,
+    CountedMarkPastNTaken,
+    MarkPastNNotCountedTaken,
+    WrongCountBefore1,
+    WrongCountAfter3,
+    WrongCountAfterTheWords,
+    WrongCountAfter16,
+    WrongCountAfter18,
+    WrongCountAfter2,
     LineAbove32768Taken,
     Line32768Refused,
     LineCheckedAfterM,
@@ -50,10 +74,10 @@ enum Wrong {
 }
 
 /// Each beside the most steps of its shortest trace.
-const WRONG: [(Wrong, usize); 33] = [
+const WRONG: [(Wrong, usize); 55] = [
     (Wrong::PickNeverMarks, 2),
     (Wrong::FirstPickMarksEverything, 2),
-    (Wrong::MadeUpCount, 4),
+    (Wrong::MadeUpCount, 2),
     (Wrong::NeighbourMarkedToo, 2),
     (Wrong::ReportBeforeSettled, 2),
     (Wrong::RefusedPickAltersAWord, 1),
@@ -61,11 +85,33 @@ const WRONG: [(Wrong, usize); 33] = [
     (Wrong::AtomBeforeWords, 1),
     (Wrong::MarksPastNForgotten, 2),
     (Wrong::RefusedFreshKeepsN, 1),
+    (Wrong::MarkedAndNotCounted, 2),
+    (Wrong::CountedAndNotMarked, 2),
+    (Wrong::CountedTwice, 2),
+    (Wrong::AlreadyMarkedIsCounted, 2),
+    (Wrong::CannotBeMarkedIsCounted, 2),
+    (Wrong::RefusedPickIsCounted, 1),
+    (Wrong::FreshWithCount1, 1),
+    (Wrong::RefusedFreshWithCount1, 1),
+    (Wrong::CountOneAboveTaken, 2),
+    (Wrong::CountOneBelowTaken, 2),
+    (Wrong::CountSeenIn32Bits, 2),
+    (Wrong::CountNTakenForSettled, 2),
+    (Wrong::WrongCountRepaired, 2),
+    (Wrong::WrongCountPutRightByARefusal, 2),
+    (Wrong::BitsOfAWrongCountCounted, 2),
+    (Wrong::CountedMarkPastNTaken, 2),
+    (Wrong::MarkPastNNotCountedTaken, 2),
+    (Wrong::WrongCountBefore1, 2),
+    (Wrong::WrongCountAfter3, 2),
+    (Wrong::WrongCountAfterTheWords, 2),
+    (Wrong::WrongCountAfter16, 2),
+    (Wrong::WrongCountAfter18, 2),
     (Wrong::LineAbove32768Taken, 2),
     (Wrong::Line32768Refused, 2),
     (Wrong::LineCheckedAfterM, 2),
     (Wrong::LineReadAsM, 2),
-    (Wrong::RecordByHandLeftOut, 3),
+    (Wrong::RecordByHandLeftOut, 2),
     (Wrong::NeverInConflict, 1),
     (Wrong::AlwaysInConflict, 1),
     (Wrong::ConflictOfAtom0Alone, 1),
@@ -86,13 +132,28 @@ const WRONG: [(Wrong, usize); 33] = [
     (Wrong::GroupBeforeAFaultyWord, 1),
 ];
 
-/// Noticed by tables above 8,192 words alone, which cannot shrink below that.
-const WRONG_OF_LONG_TABLES: [Wrong; 2] = [Wrong::ConflictWithWordsBefore2, Wrong::ConflictWith2Before1];
+/// Noticed by tables above 8,192 words alone, which cannot shrink below that; each beside the most steps of its shortest trace.
+const WRONG_OF_LONG_TABLES: [(Wrong, usize); 3] =
+    [(Wrong::ConflictWithWordsBefore2, 1), (Wrong::ConflictWith2Before1, 1), (Wrong::WrongCountAfter2, 2)];
 
+/// Marks an atom below N and counts it.
 fn mark(record: &mut MarkRecord, atom: u64) {
-    if atom < record.n.min(512) {
+    if atom < record.n.min(512) && !record.has(atom as usize) {
         record.marks[atom as usize / 64] |= 1 << (atom % 64);
+        record.count += 1;
     }
+}
+
+/// The record with its number of marks as the count.
+fn counted(record: &MarkRecord) -> MarkRecord {
+    MarkRecord::counted(record.n, record.marks)
+}
+
+/// The record without the marks past N, and with the number of the others as the count.
+fn cut_at_n(record: &MarkRecord) -> MarkRecord {
+    let mut cut = MarkRecord { n: record.n, ..MarkRecord::EMPTY };
+    (0..record.n.min(512)).filter(|&atom| record.has(atom as usize)).for_each(|atom| mark(&mut cut, atom));
+    cut
 }
 
 /// The words with each record's line set by a rule of the line.
@@ -141,7 +202,7 @@ fn values(n: u64, words: &[u16]) -> Vec<u8> {
 
 /// Whether an atom can be marked after a mark by hand at atom 0, and so also one with only one literal held, which is not clean.
 fn markable_after_a_mark(n: u64, words: &[u16]) -> bool {
-    let mut record = MarkRecord { n, marks: [0; 8] };
+    let mut record = MarkRecord { n, ..MarkRecord::EMPTY };
     mark(&mut record, 0);
     Second.settled(&record, words) == Ok(NO)
 }
@@ -196,6 +257,41 @@ impl Wrong {
             }
             _ => {}
         })
+    }
+
+    /// The record as the engine takes it.
+    fn record_seen(&self, record: &MarkRecord) -> MarkRecord {
+        let (right, cut) = (counted(record), cut_at_n(record));
+        let takes = match self {
+            Wrong::CountOneAboveTaken => record.count == right.count + 1,
+            Wrong::CountOneBelowTaken => right.count.checked_sub(1) == Some(record.count),
+            Wrong::CountSeenIn32Bits => u64::from(record.count as u32) == right.count,
+            Wrong::WrongCountRepaired => true,
+            _ => false,
+        };
+        match self {
+            _ if takes => right,
+            Wrong::CountedMarkPastNTaken if record.count == right.count => cut,
+            Wrong::MarkPastNNotCountedTaken if record.count == cut.count => cut,
+            _ => *record,
+        }
+    }
+
+    /// The answer of an entry that has refused a wrong count, by what it says once the count is right.
+    fn in_order(&self, record: &MarkRecord, answer: Answer, entry: impl FnOnce(&MarkRecord) -> Answer) -> Answer {
+        let right = counted(record);
+        if *record == right {
+            return answer;
+        }
+        match (self, answer, entry(&right)) {
+            (Wrong::WrongCountBefore1, Err(Refusal { number: 1, .. }), _) => Err(Refusal { number: 17, place: 0 }),
+            (Wrong::WrongCountAfter2, Err(Refusal { number: 17, .. }), first @ Err(Refusal { number: 2, .. }))
+            | (Wrong::WrongCountAfter3, Err(Refusal { number: 17, .. }), first @ Err(Refusal { number: 3, .. }))
+            | (Wrong::WrongCountAfterTheWords, Err(Refusal { number: 17, .. }), first @ Err(Refusal { number: 4..=7, .. }))
+            | (Wrong::WrongCountAfter16, Err(Refusal { number: 17, .. }), first @ Err(Refusal { number: 16, .. }))
+            | (Wrong::WrongCountAfter18, Err(Refusal { number: 17, .. }), first @ Err(Refusal { number: 18, .. })) => first,
+            _ => answer,
+        }
     }
 
     /// The set as the engine takes it.
@@ -255,15 +351,31 @@ impl Entries for Wrong {
         let (record, answer) = Second.fresh(n);
         match self {
             Wrong::RefusedFreshKeepsN => (MarkRecord { n, ..record }, answer),
+            Wrong::FreshWithCount1 if answer.is_ok() => (MarkRecord { count: 1, ..record }, answer),
+            Wrong::RefusedFreshWithCount1 if answer.is_err() => (MarkRecord { count: 1, ..record }, answer),
             _ => (record, answer),
         }
     }
 
     fn pick(&self, record: &mut MarkRecord, words: &[u16], atom: u64) -> Answer {
         let before = *record;
-        let answer = self.ask(before.n, words, |words| Second.pick(record, words, atom));
+        let mut seen = self.record_seen(&before);
+        let answer = self.ask(before.n, words, |words| Second.pick(&mut seen, words, atom));
+        let answer = self.in_order(&before, answer, |right| Second.pick(&mut right.clone(), words, atom));
+        // What is refused stays, and so do the marks that the engine did not see.
+        if answer.is_ok() {
+            (0..8).for_each(|word| seen.marks[word] |= before.marks[word]);
+            *record = seen;
+        }
         match self {
             Wrong::PickNeverMarks if answer == Ok(MARKED) => *record = before,
+            Wrong::MarkedAndNotCounted if answer == Ok(MARKED) => record.count = before.count,
+            Wrong::CountedAndNotMarked if answer == Ok(MARKED) => record.marks = before.marks,
+            Wrong::CountedTwice if answer == Ok(MARKED) => record.count += 1,
+            Wrong::AlreadyMarkedIsCounted if answer == Ok(ALREADY_MARKED) => record.count += 1,
+            Wrong::CannotBeMarkedIsCounted if answer == Ok(CANNOT_BE_MARKED_NOW) => record.count += 1,
+            Wrong::RefusedPickIsCounted if answer.is_err() => record.count = before.count.wrapping_add(1),
+            Wrong::WrongCountPutRightByARefusal if answer.is_err() => *record = counted(record),
             Wrong::FirstPickMarksEverything if answer == Ok(MARKED) => {
                 (0..record.n).for_each(|atom| mark(record, atom));
             }
@@ -272,18 +384,27 @@ impl Entries for Wrong {
             Wrong::AtomBeforeWords if atom >= record.n && answer.is_err_and(|refusal| (4..8).contains(&refusal.number)) => {
                 return Err(Refusal { number: 16, place: 0 });
             }
-            Wrong::MarksPastNForgotten if answer == Err(Refusal { number: 17, place: 0 }) => return Ok(ALREADY_MARKED),
+            Wrong::MarksPastNForgotten if answer == Err(Refusal { number: 17, place: 0 }) && cut_at_n(record).marks != record.marks => {
+                return Ok(ALREADY_MARKED);
+            }
             _ => {}
         }
         answer
     }
 
     fn settled(&self, record: &MarkRecord, words: &[u16]) -> Answer {
-        self.ask(record.n, words, |words| Second.settled(record, words))
+        let seen = self.record_seen(record);
+        let answer = self.ask(record.n, words, |words| Second.settled(&seen, words));
+        match self {
+            Wrong::CountNTakenForSettled if answer == Err(Refusal { number: 17, place: 0 }) && record.count == record.n => Ok(YES),
+            _ => self.in_order(record, answer, |right| Second.settled(right, words)),
+        }
     }
 
     fn report(&self, record: &MarkRecord, words: &[u16], values: &mut [u8]) -> Answer {
-        let answer = self.ask(record.n, words, |words| Second.report(record, words, values));
+        let seen = self.record_seen(record);
+        let answer = self.ask(record.n, words, |words| Second.report(&seen, words, values));
+        let answer = self.in_order(record, answer, |right| Second.report(right, words, &mut values.to_vec()));
         match self {
             Wrong::ReportBeforeSettled if answer == Err(Refusal { number: 18, place: 0 }) => Ok(0),
             Wrong::ByteWrittenPastN if answer.is_ok() => {
@@ -297,10 +418,11 @@ impl Entries for Wrong {
     }
 
     fn mark_count(&self, record: &MarkRecord) -> Answer {
-        let answer = Second.mark_count(record);
+        let answer = Second.mark_count(&self.record_seen(record));
         match self {
             Wrong::MadeUpCount => answer.map(|marks| marks.min(1)),
-            _ => answer,
+            Wrong::BitsOfAWrongCountCounted => Second.mark_count(&counted(record)),
+            _ => self.in_order(record, answer, |right| Second.mark_count(right)),
         }
     }
 
@@ -346,7 +468,7 @@ impl Entries for Wrong {
     }
 }
 
-const PLAN: Plan = Plan { table: |chance| random::small_table(chance, 6), tables: 3, damaged: 15, forged: 5, steps: 40 };
+const PLAN: Plan = Plan { table: |chance| random::small_table(chance, 6), tables: 3, damaged: 15, forged: 15, steps: 40 };
 
 fn trace(seed: u64) -> Trace {
     random_trace(&mut Chance::new(seed), PLAN)
@@ -368,10 +490,16 @@ fn each_is_noticed_and_its_trace_shrinks() {
 
 #[test]
 fn each_is_noticed_by_a_long_table() {
-    for wrong in WRONG_OF_LONG_TABLES {
+    for (wrong, most) in WRONG_OF_LONG_TABLES {
         let trace = |seed| random_trace(&mut Chance::new(seed), Plan { damaged: 90, ..PLAN });
-        let found = (0..2_000).find_map(|seed| parting(&trace(seed), &wrong, &mut Tally::default()));
-        println!("{wrong:?}: {}", found.unwrap_or_else(|| panic!("{wrong:?} was not noticed")).what);
+        let found = (0..2_000).find_map(|seed| parting(&trace(seed), &wrong, &mut Tally::default()).map(|parting| (seed, parting)));
+        let (seed, first) = found.unwrap_or_else(|| panic!("{wrong:?} was not noticed"));
+        let (short, last) = shortest(&trace(seed), first, &wrong);
+        let steps: Vec<_> = short.steps.iter().map(|step| format!("{step:?}")).collect();
+        println!("{wrong:?}, found by trace {seed}: {}; {}", steps.join(", "), last.what);
+        assert!(short.steps.len() <= most, "{wrong:?}: {}", steps.join(", "));
+        let words: usize = short.tables.iter().map(Vec::len).sum();
+        assert_eq!(words, 8193, "{wrong:?}: {}", steps.join(", "));
     }
 }
 

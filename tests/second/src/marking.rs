@@ -4,11 +4,13 @@ use crate::model;
 use crate::refusal::*;
 use crate::table::{self, Rule};
 
-/// N and 512 marks; atom a is bit a mod 64, lowest first, of word a div 64.
+/// N, 512 marks and their count (document 02, W6); atom a is bit a mod 64, lowest first, of word a div 64.
 #[derive(Clone, Copy, Debug, PartialEq, Eq)]
 pub struct MarkRecord {
     pub n: u64,
     pub marks: [u64; 8],
+    /// As stored: in a record from anybody it may be any number.
+    pub count: u64,
 }
 
 /// What a pick answers.
@@ -21,17 +23,30 @@ pub enum Picked {
 }
 
 impl MarkRecord {
-    pub const EMPTY: MarkRecord = MarkRecord { n: 0, marks: [0; 8] };
+    /// N 0, no marks, count 0.
+    pub const EMPTY: MarkRecord = MarkRecord { n: 0, marks: [0; 8], count: 0 };
+
+    /// A record with these marks and their number as the count.
+    pub fn counted(n: u64, marks: [u64; 8]) -> MarkRecord {
+        let record = MarkRecord { n, marks, count: 0 };
+        MarkRecord { count: record.number_of_marks(), ..record }
+    }
 
     pub fn has(&self, atom: usize) -> bool {
         self.marks[atom / 64] >> (atom % 64) & 1 == 1
     }
 
-    /// 1, then 17.
+    /// How many of the 512 are marked, at N or above too; whatever is stored.
+    pub fn number_of_marks(&self) -> u64 {
+        (0..512).filter(|&atom| self.has(atom)).count() as u64
+    }
+
+    /// 1, then 17: a mark at N or above, or a count that is not the number of marks.
     fn check(&self) -> Result<(), Refusal> {
         table::check_n(self.n)?;
-        if (self.n as usize..512).any(|atom| self.has(atom)) {
-            return refuse(MARK_AT_N_OR_ABOVE, 0);
+        let past_n = (self.n as usize..512).any(|atom| self.has(atom));
+        if past_n || self.count != self.number_of_marks() {
+            return refuse(BROKEN_RECORD, 0);
         }
         Ok(())
     }
@@ -49,15 +64,15 @@ impl MarkRecord {
     }
 }
 
-/// A fresh record for N, with the answer; a refused one has N 0 and no marks.
+/// A fresh record for N, with the answer; a refused one has N 0, no marks and count 0.
 pub fn fresh(n: u64) -> (MarkRecord, Result<(), Refusal>) {
     match table::check_n(n) {
-        Ok(()) => (MarkRecord { n, marks: [0; 8] }, Ok(())),
+        Ok(()) => (MarkRecord { n, marks: [0; 8], count: 0 }, Ok(())),
         refused => (MarkRecord::EMPTY, refused),
     }
 }
 
-/// Marks the atom if it can be marked now; nothing else in the record is altered. 1, 17, 2, words, 16.
+/// Marks the atom if it can be marked now, and counts it; nothing else in the record is altered. 1, 17, 2, words, 16.
 pub fn pick(record: &mut MarkRecord, words: &[u16], atom: u64) -> Picked {
     let rules = match record.rules(words) {
         Ok(rules) => rules,
@@ -74,6 +89,7 @@ pub fn pick(record: &mut MarkRecord, words: &[u16], atom: u64) -> Picked {
         Picked::AlreadyMarked
     } else if model::markable(&rules, &record.marked()).contains(&atom) {
         record.marks[atom / 64] |= 1 << (atom % 64);
+        record.count += 1;
         Picked::Marked
     } else {
         Picked::CannotBeMarkedNow
@@ -101,8 +117,8 @@ pub fn report(record: &MarkRecord, words: &[u16], values: &mut [u8]) -> Result<(
     Ok(())
 }
 
-/// The number of marks. 1, 17.
+/// The number of marks, as stored. 1, 17.
 pub fn mark_count(record: &MarkRecord) -> Result<u64, Refusal> {
     record.check()?;
-    Ok(record.marked().iter().filter(|&&mark| mark).count() as u64)
+    Ok(record.count)
 }

@@ -95,19 +95,16 @@ pub fn values_of(rules: &[Rule], marked: &[bool]) -> Vec<u8> {
     (0..marked.len()).map(value).collect()
 }
 
-/// The settled marking from no marks; refuses (19) if N marks do not settle.
+/// The settled marking from no marks.
 ///
 /// All atoms that can be marked are marked at once: a mark makes Held larger and Clean smaller, so what could be marked
-/// before it still can be after it.
-pub fn settle(n: u64, rules: &[Rule]) -> Result<Vec<bool>, Refusal> {
+/// before it still can be after it. Each round marks at least one atom more, and with all N marked none is left to mark.
+pub fn settle(n: u64, rules: &[Rule]) -> Vec<bool> {
     let mut marked = vec![false; n as usize];
     loop {
         let next = markable(rules, &marked);
         if next.is_empty() {
-            return Ok(marked);
-        }
-        if marked.iter().all(|&mark| mark) {
-            return refuse(N_MARKS_NOT_SETTLED, 0);
+            return marked;
         }
         for atom in next {
             marked[atom] = true;
@@ -115,7 +112,7 @@ pub fn settle(n: u64, rules: &[Rule]) -> Result<Vec<bool>, Refusal> {
     }
 }
 
-/// The rules of an evaluation that is not refused before 19: 1, 2, 3, then the words.
+/// The rules of an evaluation that is not refused: 1, 2, 3, then the words.
 pub fn evaluation_rules(n: u64, words: &[u16], room: usize) -> Result<Vec<Rule>, Refusal> {
     table::check_n(n)?;
     table::check_length(words)?;
@@ -130,7 +127,7 @@ pub fn check_room(n: u64, room: usize) -> Result<(), Refusal> {
 /// Whole evaluation: writes N values; on refusal and past the values nothing is altered.
 pub fn evaluate(n: u64, words: &[u16], values: &mut [u8]) -> Result<(), Refusal> {
     let rules = evaluation_rules(n, words, values.len())?;
-    let settled = values_of(&rules, &settle(n, &rules)?);
+    let settled = values_of(&rules, &settle(n, &rules));
     values[..settled.len()].copy_from_slice(&settled);
     Ok(())
 }

@@ -23,9 +23,9 @@ pub const GROUP_OR_LITERAL_65: u32 = 13;
 pub const WORDS_PASS_8192: u32 = 14;
 pub const TEXT_ROOM_TOO_SMALL: u32 = 15;
 pub const ATOM_NOT_BELOW_N: u32 = 16;
-pub const MARK_AT_N_OR_ABOVE: u32 = 17;
+/// A mark at N or above, or a stored count that is not the number of marks.
+pub const BROKEN_RECORD: u32 = 17;
 pub const NOT_SETTLED: u32 = 18;
-pub const N_MARKS_NOT_SETTLED: u32 = 19;
 pub const TRUTH_CODE_ABOVE_3: u32 = 20;
 pub const TEXT_BROKEN: u32 = 21;
 pub const LINE_WRONG: u32 = 22;

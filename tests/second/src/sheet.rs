@@ -46,7 +46,7 @@ impl Contents {
     }
 }
 
-/// The sheet entry: fills the buffers and the text room. 8, 9, literals, 19, 15.
+/// The sheet entry: fills the buffers and the text room. 8, 9, literals, 15.
 ///
 /// Entries past what is filled are zero, all of them after a refusal; the text room is altered only by the value sheet.
 pub fn read_sheet(
@@ -64,7 +64,7 @@ pub fn read_sheet(
         return refuse(BUFFER_TOO_SMALL, 0);
     }
     let contents = contents(sheet)?;
-    let lines = value_sheet(sheet, &contents)?;
+    let lines = value_sheet(sheet, &contents);
     if lines.len() > text.len() {
         return refuse(TEXT_ROOM_TOO_SMALL, lines.len());
     }
@@ -180,15 +180,14 @@ pub fn line_of(sheet: &[u8], place: usize) -> usize {
 }
 
 /// One line for each atom, in atom order: its name, tab, the letter of its value, byte 10.
-fn value_sheet(sheet: &[u8], contents: &Contents) -> Result<Vec<u8>, Refusal> {
+fn value_sheet(sheet: &[u8], contents: &Contents) -> Vec<u8> {
     let n = contents.names.len() as u64;
     let rules = contents.rules();
-    let marked = model::settle(n, &rules)?;
-    let values = model::values_of(&rules, &marked);
+    let values = model::values_of(&rules, &model::settle(n, &rules));
     let mut lines = Vec::new();
     for (name, value) in contents.names.iter().zip(values) {
         lines.extend_from_slice(name.of(sheet));
         lines.extend_from_slice(&[b'\t', truth::letter(value), b'\n']);
     }
-    Ok(lines)
+    lines
 }

@@ -132,7 +132,7 @@ fn settled_markings_of_large_tables_leave_nothing_to_mark() {
         let mut chance = Chance::new(seed);
         let (n, words) = random::large_table(&mut chance);
         let rules = rules_of(n, &words).unwrap();
-        let marked = settle(n, &rules).unwrap();
+        let marked = settle(n, &rules);
         assert_eq!(marked.len(), n as usize);
         assert_eq!(markable(&rules, &marked), []);
         let values = values_of(&rules, &marked);
@@ -289,7 +289,7 @@ fn compare_all(n: usize, bodies: &[Option<Vec<Vec<usize>>>]) -> u32 {
             }
             rest /= bodies.len();
         }
-        let values = values_of(&rules, &settle(n as u64, &rules).unwrap());
+        let values = values_of(&rules, &settle(n as u64, &rules));
         let least = judge::smallest(&judge::well_supported_models(n, &rules));
         assert_eq!(conflict(n as u64, &encode(&numbered(&rules))).ok(), least.map(|set| has_pair(n, set)), "{rules:?}");
         assert_eq!(Some(values), least.map(|set| judge::values(n, set)), "{rules:?}");
@@ -406,7 +406,7 @@ fn p1_to_p12_held_and_clean_in_the_settled_marking() {
     ];
     for (example, (name, in_held, in_clean)) in EXAMPLES.iter().zip(expected) {
         let table = example.table();
-        let marked = settle(table.n(), &table.rules).unwrap();
+        let marked = settle(table.n(), &table.rules);
         assert_eq!(example.name, name);
         assert_eq!(each(&table.rules, &held(&table.rules, &marked)), in_held, "{name}");
         assert_eq!(each(&table.rules, &clean(&table.rules, &marked)), in_clean, "{name}");

@@ -1,6 +1,7 @@
 //! The generators draw what they say.
 
 use second::judge;
+use second::marking::mark_count;
 use second::model::{OfFirst, evaluate, which_group, which_group_of_first};
 use second::random::*;
 use second::reasons::Claim;
@@ -191,9 +192,44 @@ fn records_are_sound_unless_forged() {
     for seed in 0..500 {
         let mut chance = Chance::new(seed);
         let n = chance.below(513);
-        assert!(second::marking::mark_count(&record(&mut chance, n)).is_ok());
-        assert!(second::marking::mark_count(&forged_record(&mut chance, n)).is_err());
+        let sound = record(&mut chance, n);
+        assert_eq!(mark_count(&sound), Ok(sound.number_of_marks()));
+        assert!(mark_count(&forged_record(&mut chance, n)).is_err());
     }
+}
+
+#[test]
+fn each_forgery_of_a_record_is_refused_by_its_number() {
+    for seed in 0..400 {
+        let mut chance = Chance::new(seed);
+        for n in [0, 1, 2, 63, 64, 65, 511, 512, chance.clone().below(513)] {
+            for forgery in RECORD_FORGERIES.into_iter().filter(|forgery| forgery.fits(n)) {
+                let forged = forge(&mut chance, n, forgery);
+                assert!(forgery.is(&forged), "seed {seed}, {forgery:?}: {forged:?}");
+                assert_eq!(mark_count(&forged).unwrap_err().number, forgery.number(), "seed {seed}, {forgery:?}");
+            }
+            let sound = record(&mut chance, n);
+            assert!(!RECORD_FORGERIES.iter().any(|forgery| forgery.is(&sound)), "seed {seed}, {sound:?}");
+        }
+    }
+}
+
+#[test]
+fn records_of_any_kind_are_forged_in_each_way() {
+    let mut met = [0; RECORD_FORGERIES.len()];
+    let (mut sound, mut all_marked) = (0, 0);
+    for seed in 0..20_000 {
+        let mut chance = Chance::new(seed);
+        let n = chance.of(&[0, 1, 2, 3, 6, 64, 300, 512]);
+        let drawn = any_record(&mut chance, n);
+        for (forgery, times) in RECORD_FORGERIES.into_iter().zip(&mut met) {
+            *times += forgery.is(&drawn) as u32;
+        }
+        sound += mark_count(&drawn).is_ok() as u32;
+        all_marked += (n > 0 && mark_count(&drawn) == Ok(n)) as u32;
+    }
+    assert!(met.iter().all(|&times| times > 150), "{met:?}");
+    assert!(sound > 14_000 && all_marked > 1_500, "{sound} {all_marked}");
 }
 
 #[test]
