@@ -44,13 +44,13 @@
 extern "C" {
 #endif
 
-/* Version. The minor number grows only when a layout or an answer changes, so by it a host tells whether a stored table still means
- * the same; a call more raises the patch number. */
+/* Version. The minor number grows only when a layout or an answer changes, so where it is the same a stored table means the same;
+ * where it is not, VERSIONS in simmerknot(3) says whether. A call more raises the patch number. */
 
 #define SIMMERKNOT_VERSION_MAJOR 0
-#define SIMMERKNOT_VERSION_MINOR 3
-#define SIMMERKNOT_VERSION_PATCH 2
-#define SIMMERKNOT_VERSION_TEXT "0.3.2"
+#define SIMMERKNOT_VERSION_MINOR 4
+#define SIMMERKNOT_VERSION_PATCH 0
+#define SIMMERKNOT_VERSION_TEXT "0.4.0"
 
 /* The version as one number, to compare with simmerknot_version(). */
 #define SIMMERKNOT_VERSION (1000000 * SIMMERKNOT_VERSION_MAJOR + 1000 * SIMMERKNOT_VERSION_MINOR + SIMMERKNOT_VERSION_PATCH)
@@ -84,8 +84,8 @@ extern "C" {
  *   in a table made by hand; number of groups, 0 to 64 (0 is a fact); per group its length, 1 to 64, and its literal codes. A literal
  *   code is 2 x atom, plus 1 for the negation. A head has one record at most. Line numbers stand in any order and may repeat; no
  *   answer and no value depends on one. A table does not say for which version it was made: whoever stores one stores that too.
- * Answered: 0 if evaluated, else a refusal: 1, 2, 3, then the first faulty word by 4, 5, 6 or 7, then 19. 6 is also for a line
- *   number above 32,768, and 4 for a lone last byte, met after the whole words.
+ * Answered: 0 if evaluated, else a refusal: 1, 2, 3, then the first faulty word by 4, 5, 6 or 7. 6 is also for a line number
+ *   above 32,768, and 4 for a lone last byte, met after the whole words.
  * Written: if evaluated, the first n bytes of `values`, the value of each atom as a simmerknot_value.
  * Untouched: `table`; the bytes of `values` past n; all of `values` on a refusal. */
 uint64_t simmerknot_evaluate(uint64_t n, const uint8_t *table, size_t table_len, uint8_t *values, size_t values_len);
@@ -140,8 +140,8 @@ uint64_t simmerknot_check_reasons(uint64_t n, const uint8_t *table, size_t table
 /* Reads a rule sheet (its layout: simmer(1), docs/SHEETS.md) and writes its value sheet.
  *
  * Read: `sheet`.
- * Answered: the value sheet's length, else a refusal: 8, 9, then the first literal with a fault by 10, 11, 12, 7, 13 or 14, then
- *   19, last 15.
+ * Answered: the value sheet's length, else a refusal: 8, 9, then the first literal with a fault by 10, 11, 12, 7, 13 or 14, last
+ *   15.
  * Written: every whole entry of `words` and `names`. If accepted, `words` begins with the sheet's rules as a table, one record to a
  *   line, with the line of its head, from 1, and `names` with one entry for each atom, in atom order: 32 x the place of the
  *   name's first appearance + its length, four bytes, low byte first. All entries after these are zero; on a refusal all are, also
@@ -167,8 +167,9 @@ static inline uint32_t simmerknot_number(uint64_t answer) { return (uint32_t)(an
 /* The refusal's place: a word of the table, a byte of the sheet or text, the bytes needed (15), an atom (20), a line (22), or 0. */
 static inline uint32_t simmerknot_place(uint64_t answer) { return (uint32_t)(answer & 0xffffffffu); }
 
-/* The numbers of refusal: number, name, text. The calls give 1 to 15, 19 to 22 and 34, and none gives the others; 23 to 33 are no
- * refusals. */
+/* The numbers of refusal: number, name, text. The calls give 1 to 15, 20 to 22 and 34, and none gives the others; 23 to 33 are no
+ * refusals.
+ * 19 is retired: it has no name and no text, and is given to nothing else. */
 #define SIMMERKNOT_REFUSALS(X) \
     X(1, TOO_MANY_ATOMS, "N is above 512") \
     X(2, TABLE_TOO_LONG, "the table has more than 8,192 words") \
@@ -186,9 +187,8 @@ static inline uint32_t simmerknot_place(uint64_t answer) { return (uint32_t)(ans
     X(14, TOO_MANY_WORDS, "the rules would fill more than 8,192 words") \
     X(15, TEXT_ROOM_TOO_SMALL, "the value sheet or reason sheet does not fit the text room") \
     X(16, NO_SUCH_ATOM, "the picked atom is not below N") \
-    X(17, MARK_PAST_ATOMS, "the record has a mark at N or above") \
+    X(17, BROKEN_RECORD, "the record has a mark at N or above, or its count is not the number of its marks") \
     X(18, NOT_SETTLED, "a report before the marking is settled") \
-    X(19, NEVER_SETTLED, "evaluation has made N marks and is not settled") \
     X(20, NOT_A_TRUTH_CODE, "the code of a truth value is above 3") \
     X(21, TEXT_BROKEN, "a byte that cannot stand there in a reason sheet, or the text ended inside a line") \
     X(22, LINE_NOT_JUSTIFIED, "a line of the reason sheet is missing, out of order, surplus, not justified or ranked above 1,023") \

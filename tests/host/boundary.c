@@ -247,22 +247,19 @@ static char valued[513];
 /* How many tables had a conflict, had none, were refused. */
 static unsigned long conflicts, quiet, not_asked;
 
-/* The answer on conflict, by that of an evaluation which had room: the same refusal, or whether a value is i. 3 and 19 are never its. */
+/* The answer on conflict, by that of an evaluation which had room: the same refusal, or whether a value is i. 3 is never its. */
 static void check_conflict(uint64_t n, const uint8_t *table, size_t table_len, uint64_t evaluated) {
     struct lent t = lend_to_read(table, table_len);
     const uint64_t answer = simmerknot_conflict(n, t.at, t.len);
     calls++;
     check(t.len == 0 || memcmp(t.at, table, table_len) == 0, "the question on conflict altered the table");
-    if (simmerknot_refused(evaluated) && simmerknot_number(evaluated) != 19) {
+    if (simmerknot_refused(evaluated)) {
         check(answer == evaluated, "another refusal of the question on conflict");
         not_asked++;
-    } else {
-        check(!simmerknot_refused(answer), "the question on conflict refuses an accepted table");
-    }
-    if (evaluated == 0 && strchr(valued, 'i')) {
+    } else if (strchr(valued, 'i')) {
         check(answer == SIMMERKNOT_CONFLICT, "no conflict, and a value is i");
         conflicts++;
-    } else if (evaluated == 0) {
+    } else {
         check(answer == SIMMERKNOT_NO_CONFLICT, "a conflict, and no value is i");
         quiet++;
     }
@@ -436,7 +433,6 @@ static void check_reasons(uint64_t n, const uint8_t *table, size_t table_len, ui
     const uint64_t needed = write_reasons(n, table, table_len, 0);
     size_t len, i;
     if (simmerknot_refused(evaluated)) {
-        if (simmerknot_number(evaluated) == 19) return;
         check(needed == evaluated, "another refusal of the writer of reasons");
         check(write_reasons(n, table, table_len, 40) == evaluated, "another refusal, where there is room");
         i = n <= sizeof values ? (size_t)n : 1;
@@ -468,7 +464,7 @@ static uint64_t evaluate_once(uint64_t n, const uint8_t *table, size_t table_len
     check(t.len == 0 || memcmp(t.at, table, table_len) == 0, "the table was altered");
     if (simmerknot_refused(answer)) {
         const uint32_t number = simmerknot_number(answer);
-        check((number >= 1 && number <= 7) || number == 19, "a number that evaluation does not give");
+        check(number >= 1 && number <= 7, "a number that evaluation does not give");
         check(number != 3 || (n <= 512 && room < n), "3 against 1, or with room");
         check_untouched(v, 0, "a refusal wrote a value");
     } else {
@@ -717,18 +713,21 @@ static void written_reasons(void) {
     }
 }
 
-/* Both literals of 512 atoms are facts: 1,024 lines, of which the last may have any rank; and one more. */
+/* Both literals of 512 atoms are facts, so all are i: 1,024 lines, of which the last may have any rank; and one more. */
 static void full_reasons(void) {
     static uint8_t table[6 * MOST_LINES + 2], values[SIMMERKNOT_MOST_ATOMS], text[SIMMERKNOT_REASON_SHEET_BYTES + 99];
     static struct reason row[MOST_LINES + 1];
+    static char marked[513];
     size_t i, len;
     what = "1,024 lines";
     memset(values, SIMMERKNOT_I, sizeof values);
+    memset(marked, 'i', 512);
     for (i = 0; i <= MOST_LINES; i++) {
         const struct reason line = {(unsigned)i, i < 1000 ? 0 : 1023, (unsigned)i, 0};
         row[i] = line;
         if (i < MOST_LINES) put_word(table, 3 * i, i);
     }
+    check(evaluate(512, table, 6 * MOST_LINES, 512, marked) == 0, "all 512 atoms marked is not evaluated");
     len = put_reasons(text, row, MOST_LINES);
     check(check_sheet(512, table, 6 * MOST_LINES, values, 512, text, len) == 0, "another answer");
     check(check_sheet(512, table, 6 * MOST_LINES, values, 512, text, len - 1) == refusal(21, len - 1), "another answer");
@@ -871,7 +870,7 @@ static uint64_t read_sheet(const uint8_t *sheet, size_t sheet_len, size_t words_
     check_untouched(n, names_len / 4 * 4, "a byte after the last name entry was altered");
     if (simmerknot_refused(answer)) {
         const uint32_t number = simmerknot_number(answer);
-        check((number >= 7 && number <= 15) || number == 19, "a number that the sheet entry does not give");
+        check(number >= 7 && number <= 15, "a number that the sheet entry does not give");
         check_zero(w, 0, words_len / 2 * 2, "a refusal left a word");
         check_zero(n, 0, names_len / 4 * 4, "a refusal left a name entry");
         check(simmerknot_words_used(w.at, w.len) == 0 && simmerknot_line_of(w.at, w.len, 0) == 0, "words of a refusal");
@@ -902,6 +901,9 @@ static const struct sheet_case sheet_cases[] = {
     {"a\n", 16391, 2055, 13824, 0, 4},
     {"a\n", 40001, 5003, 4, 0, 4},
     {"-b\tb\n", 16384, 2048, 4, 0, 4},
+    {"a\n-a\n", 16384, 2048, 4, 0, 4},
+    {"a\n-a\n", 16384, 2048, 3, 15, 4},
+    {"a\n-a\nb\ta\nh\n-h\t-b\ng\th\tk\nk\tg\n", 16384, 2048, 20, 0, 20},
     {"a\tc\nb\nc\n", 16384, 2048, 12, 0, 12},
     {"arrived\tlogged\tmailed\nlogged\n-arrived\tgap\ngap\nscored\tarrived audited\naudited\n", 16384, 2048, 53, 0, 53},
     {"arrived\tlogged\tmailed\nlogged\n-arrived\tgap\ngap\nscored\tarrived audited\naudited\n", 16384, 2048, 52, 15, 53},

@@ -40,12 +40,12 @@ static void limits(void) {
     check(SIMMERKNOT_REASON_SHEET_BYTES == 18432, "1,024 lines of 18 bytes");
 }
 
-/* Numbers of document 01 and, from 21 on, of document 02. */
-static uint32_t number_in_row(uint32_t i) { return i < 22 ? i + 1 : 34; }
+/* Numbers of document 01 but for 19, which is retired, and, from 21 on, of document 02. */
+static uint32_t number_in_row(uint32_t i) { return i < 18 ? i + 1 : i < 21 ? i + 2 : 34; }
 
 static void refusals(void) {
     uint32_t i, j;
-    check(ROWS == 23 && (int)SIMMERKNOT_LAST_REFUSAL == (int)rows[ROWS - 1].number, "the last number is the list's last");
+    check(ROWS == 22 && (int)SIMMERKNOT_LAST_REFUSAL == (int)rows[ROWS - 1].number, "the last number is the list's last");
     for (i = 0; i < ROWS; i++) {
         const uint32_t number = number_in_row(i);
         check(rows[i].number == number, "numbers in order");
@@ -55,7 +55,10 @@ static void refusals(void) {
         check(strlen(rows[i].text) > 9 && !strchr(rows[i].text, '\n'), "a text is one line");
         for (j = 0; j < i; j++) check(strcmp(rows[i].text, rows[j].text) != 0, "no text stands twice");
     }
+    check(SIMMERKNOT_BROKEN_RECORD == 17 && strcmp(simmerknot_refusal_name(17), "BROKEN_RECORD") == 0, "the name of 17");
+    check(strstr(simmerknot_refusal_text(17), "mark") && strstr(simmerknot_refusal_text(17), "count"), "17 has two causes");
     check(*simmerknot_refusal_name(0) == 0 && *simmerknot_refusal_text(0) == 0, "0 is no refusal");
+    check(*simmerknot_refusal_name(19) == 0 && *simmerknot_refusal_text(19) == 0, "19 is retired");
     for (i = 23; i < 34; i++) check(*simmerknot_refusal_name(i) == 0 && *simmerknot_refusal_text(i) == 0, "23 to 33 are not in the list");
     check(*simmerknot_refusal_name(35) == 0 && *simmerknot_refusal_text(35) == 0, "35 is not in the list");
     check(*simmerknot_refusal_name(0xffffffffu) == 0 && *simmerknot_refusal_text(0xffffffffu) == 0, "the largest number");

@@ -48,8 +48,21 @@ static const uint8_t *cut_lines(const uint8_t *table, size_t table_len) {
     return cut;
 }
 
+/* Whether the table is evaluated and all its atoms, one at least, are marked: i. */
+static int all_marked(uint64_t n, const uint8_t *table, size_t table_len) {
+    static uint8_t values[SIMMERKNOT_MOST_ATOMS];
+    uint64_t a;
+    if (n == 0 || __real_simmerknot_evaluate(n, table, table_len, values, sizeof values) != 0) return 0;
+    for (a = 0; a < n; a++) {
+        if (values[a] != SIMMERKNOT_I) return 0;
+    }
+    return 1;
+}
+
 uint64_t __wrap_simmerknot_evaluate(uint64_t n, const uint8_t *table, size_t table_len, uint8_t *values, size_t values_len) {
     uint64_t answer;
+    /* 76: where all N atoms are marked, 19, which is retired */
+    if (FAULT == 76 && values_len >= n && all_marked(n, table, table_len)) return (uint64_t)19 << 32;
     /* 18: a line above 32,768 is taken */
     if (FAULT == 18) table = cut_lines(table, table_len);
     /* 1, 2: one byte too many is read, behind the table or in front of it */
@@ -123,6 +136,15 @@ static uint64_t without_u(const uint8_t *lines, size_t len, uint8_t *text) {
     return kept;
 }
 
+/* Whether there are lines and all end in "i". */
+static int all_i(const uint8_t *lines, size_t len) {
+    size_t at;
+    for (at = 2; at < len; at++) {
+        if (lines[at] == '\n' && lines[at - 1] != 'i') return 0;
+    }
+    return len > 0;
+}
+
 uint64_t __wrap_simmerknot_sheet(const uint8_t *sheet, size_t sheet_len, uint8_t *words, size_t words_len, uint8_t *names,
                                  size_t names_len, uint8_t *text, size_t text_len) {
     static uint8_t lines[SIMMERKNOT_VALUE_SHEET_BYTES];
@@ -131,6 +153,15 @@ uint64_t __wrap_simmerknot_sheet(const uint8_t *sheet, size_t sheet_len, uint8_t
     if (FAULT == 14 && text_len <= sizeof lines) {
         answer = __real_simmerknot_sheet(sheet, sheet_len, words, words_len, names, names_len, lines, text_len);
         return simmerknot_refused(answer) ? answer : without_u(lines, (size_t)answer, text);
+    }
+    /* 77: where all names are marked, 19 before 15, with every entry zero and no text */
+    if (FAULT == 77) {
+        answer = __real_simmerknot_sheet(sheet, sheet_len, words, words_len, names, names_len, lines, sizeof lines);
+        if (!simmerknot_refused(answer) && all_i(lines, (size_t)answer)) {
+            memset(words, 0, words_len / 2 * 2);
+            memset(names, 0, names_len / 4 * 4);
+            return (uint64_t)19 << 32;
+        }
     }
     /* 6: one byte too many is read behind the sheet */
     if (FAULT == 6 && sheet_len) sink = sheet[sheet_len];
