@@ -1,6 +1,6 @@
 //! Evaluation's speed beside the second implementation and the yardsticks, plain rereading by the same method, and counters; then
-//! the question of conflict's beside evaluation (`conflict`), the writer's and the check's of reason sheets (`reasons`), and reading's
-//! (`reading`).
+//! the question of conflict's beside evaluation (`conflict`), the writer's and the check's of reason sheets (`reasons`), that of calls
+//! that check a mark record (`marks`), and reading's (`reading`).
 //!
 //! From tests/, after `rt staticlib probe` and `rt staticlib simmerknot`: `cargo run --release -p bench`. Both sides are
 //! in this binary. The four take turns, one evaluation each, for 2 seconds a table or 401 turns, and 11 turns at least; the
@@ -8,6 +8,7 @@
 //! microseconds, ratios those of the medians.
 
 mod conflict;
+mod marks;
 mod reading;
 mod reasons;
 mod turns;
@@ -70,5 +71,6 @@ fn main() {
     }
     conflict::print();
     reasons::print();
+    marks::print();
     reading::print();
 }

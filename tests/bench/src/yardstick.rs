@@ -26,7 +26,7 @@ fn add(set: &mut Bits, literal: u16) {
     set[(literal >> 6) as usize & 15] |= 1 << (literal & 63);
 }
 
-/// The order of evaluation's refusals before 19, found without building rules.
+/// Evaluation's refusals in their order, found without building rules.
 pub fn check(n: u64, words: &[u16], room: usize) -> Result<(), Refusal> {
     if n > MOST_ATOMS {
         return refuse(N_ABOVE_512, 0);
