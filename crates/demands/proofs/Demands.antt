@@ -53,7 +53,7 @@ use Rattle.conflict.specs.Conflict.{ConflictAllows}
 use Rattle.conflict.proofs.OnlyLines.{conflict-alike}
 use Rattle.evaluation.specs.Evaluation.{evaluationFault, EvaluationAllows}
 use Rattle.evaluation.proofs.Evaluated as evaluated
-use Rattle.evaluation.proofs.Laws.{always-settles, evaluation-determined}
+use Rattle.evaluation.proofs.Laws.{always-settles, refused-is, evaluation-determined}
 use Rattle.evaluation.proofs.OnlyLines.{evaluation-alike}
 use Rattle.values.specs.Given.{given}
 use Rattle.reasontext.specs.ReasonSheet.{ReasonLine, IsReasonText}
@@ -770,22 +770,26 @@ pub pick-keeps-the-count-true : {r r′ : MarkRecord} {t : List ℕ} {a : ℕ} {
     → length (r .marks) ≡ 8 → r .count ≡ count mostAtoms (marksOf r) → PickAllows r t a answer r′ → r′ .count ≡ count mostAtoms (marksOf r′)
 pick-keeps-the-count-true eight is o = counted.pick-counted (record { eight = eight; true-count = is }) o .true-count
 
--- a record with another count is refused by 17 wherever one is lent, before all but 1
+-- a record with another count is refused by 17 by every entry that is lent one, whatever else is wrong with what it is lent, and nothing is repaired
 module _ (r : MarkRecord) (le : r .n ≤ mostAtoms) (wrong : r .count ≡ count mostAtoms (marksOf r) → ⊥) where
-  pub wrong-count-is-17-of-pick : (t : List ℕ) (a : ℕ) → pickFault r t a ≡ Refused broken-record
+  pub wrong-count-is-17-of-pick : (t : List ℕ) (a : ℕ) {answer : PickAnswer} {r′ : MarkRecord} → PickAllows r t a answer r′
+      → (answer ≡ PickAnswer.Refused broken-record) × (r′ ≡ r)
   unfolding pickFault
-  wrong-count-is-17-of-pick t a = rw (records.wrong-count r le wrong)
+  wrong-count-is-17-of-pick t a o = let e : pickFault r t a ≡ Refused broken-record = rw (records.wrong-count r le wrong) in pick-refused r t a e o
 
-  pub wrong-count-is-17-of-settled : (t : List ℕ) → settledFault r t ≡ Refused broken-record
+  pub wrong-count-is-17-of-settled : (t : List ℕ) {answer : Decided} → SettledAllows r t answer → answer ≡ Decided.Refused broken-record
   unfolding settledFault
-  wrong-count-is-17-of-settled t = rw (records.wrong-count r le wrong)
+  wrong-count-is-17-of-settled t o = let e : settledFault r t ≡ Refused broken-record = rw (records.wrong-count r le wrong) in settled-refused r t e o
 
-  pub wrong-count-is-17-of-report : (t : List ℕ) (room : ℕ) → reportFault r t room ≡ Refused broken-record
+  pub wrong-count-is-17-of-report : (t room : List ℕ) {answer : Checked} {room′ : List ℕ} → ReportAllows r t room answer room′
+      → (answer ≡ Checked.Refused broken-record) × (room′ ≡ room)
   unfolding reportFault
-  wrong-count-is-17-of-report t room = rw (records.wrong-count r le wrong)
+  wrong-count-is-17-of-report t room o =
+      let e : reportFault r t (length room) ≡ Refused broken-record = rw (records.wrong-count r le wrong) in
+      report-refused r t room e o
 
   pub wrong-count-is-17-of-count : {answer : Numbered} → CountAllows r answer → answer ≡ NoCode broken-record
-  wrong-count-is-17-of-count o = records.count-determined r o (CountAllows.refused (records.wrong-count r le wrong))
+  wrong-count-is-17-of-count o = count-refused r (records.wrong-count r le wrong) o
 
 -- after any list of picks from a fresh record, whatever the table, the stored count is the number of marks ..
 pub stored-count-is-the-marks : (N : ℕ) (t : List ℕ) {l : List ℕ} {r : MarkRecord} → Picks t (noMarksFor N) l r
@@ -814,6 +818,11 @@ settled-says-yes-at-full-count r t e full o =
     let p = asked.settled-accepted r t e in
     settled-yes r t e (full-count-is-settled r (p .0) full t (p .1)) o
 
--- so an evaluation is always settled by the time all N atoms are marked: there is nothing to refuse by 19, which is retired
+-- so an evaluation is always settled by the time all N atoms are marked: 19, which is retired, had nothing to refuse ..
 pub evaluation-always-settles : (N : ℕ) (t : List ℕ) → AcceptedTable N t → (A : Marks) → Marking (rulesOf t) N A → Settled (rulesOf t) A
 evaluation-always-settles = always-settles
+
+-- .. and evaluation refuses nothing but the fault that the order finds
+pub evaluation-refuses-faults-alone : (N : ℕ) (t room : List ℕ) {f : Refusal} {room′ : List ℕ} → EvaluationAllows N t room (Checked.Refused f) room′
+    → evaluationFault N t (length room) ≡ Refused f
+evaluation-refuses-faults-alone N t room {f} {room′} o = refused-is N t room room′ (Checked.Refused f) f o refl .0
