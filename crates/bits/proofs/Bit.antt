@@ -2,13 +2,13 @@
 use mathlib.Core.Path.{_≡_, refl, sym, ap, ap₂, _∙_}
 use mathlib.Core.Logic.{_≢_}
 use mathlib.Core.Bool.{Bool, true, false, not, cond, _||_}
-use Prim.Native.Nat.{ℕ, zero, suc, _+_, _*_, _/_, _%_, _^_, _<_}
-use native.Mathlib.Nat.{zero-div, div-one, div-self, div-div-eq-div-mul, pow-succ', pow-suc, mul-mod-left, mul-div-cancel, zero-lt-suc, mod-lt, one-mul, not-suc-le-zero}
+use Prim.Native.Nat.{ℕ, zero, suc, _+_, _*_, _/_, _%_, _^_, _≤_, _<_}
+use native.Mathlib.Nat.{zero-div, div-one, div-self, div-div-eq-div-mul, pow-succ', pow-suc, mul-mod-left, mul-div-cancel, zero-lt-suc, mod-lt, one-mul, not-suc-le-zero, div-eq-of-lt, lt-of-lt-of-le}
 use native.Mathlib.Omega.{arith}
 use lib.Dec.{eqb, lit<}
 use lib.Arith.{lt-one}
 use lib.Count.{ones, trailingZeros, under, ones-step}
-use lib.Pow.{pow-pos, shl-exact}
+use lib.Pow.{pow-pos, pow-mono, shl-exact, shr-shr}
 use lib.Bits.{bitOr, bitXor, or-shr, or-mod, xor-shr, xor-mod}
 use borrow.Author.Tests.{eqb-true}
 use Rattle.sets.specs.Sets.{count}
@@ -28,6 +28,14 @@ bit-first a = ap (λ (x : ℕ). eqb (x % 2) 1) (div-one a)
 -- a higher bit is one of the half
 pub bit-next : (a j : ℕ) → bit a (suc j) ≡ bit (a / 2) j
 bit-next a j = ap (λ (x : ℕ). eqb (x % 2) 1) (ap (λ (x : ℕ). a / x) (pow-succ' 2 j) ∙ sym (div-div-eq-div-mul a 2 (2 ^ j)))
+
+-- a bit of a number that was shifted down
+pub bit-of-shifted : (a k j : ℕ) → bit (a / 2 ^ k) j ≡ bit a (k + j)
+bit-of-shifted a k j = ap (λ (x : ℕ). eqb (x % 2) 1) (shr-shr a k j)
+
+-- a number of k bits has no higher ones
+pub bit-past : (k a j : ℕ) → a < 2 ^ k → k ≤ j → bit a j ≡ false
+bit-past k a j h le = ap (λ (x : ℕ). eqb (x % 2) 1) (div-eq-of-lt (lt-of-lt-of-le h (pow-mono le)))
 
 pub bit-pow-same : (j : ℕ) → bit (2 ^ j) j ≡ true
 bit-pow-same j = ap (λ (x : ℕ). eqb (x % 2) 1) (div-self (pow-pos j))

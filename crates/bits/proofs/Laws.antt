@@ -3,8 +3,8 @@ use mathlib.Core.Path.{_≡_, refl, sym, ap, ap₂, _∙_, subst, fun-ext}
 use mathlib.Core.Logic.{_≢_}
 use mathlib.Core.List.{List}
 use mathlib.Core.Bool.{Bool, true, false, cond, _||_, or-true, or-false, true≢false}
-use Prim.Native.Nat.{ℕ, zero, suc, _+_, _*_, _/_, _%_, _^_, _-_, _<_, _≤_, zero-le}
-use native.Mathlib.Nat.{mod-lt, zero-lt-suc, mul-add}
+use Prim.Native.Nat.{ℕ, zero, suc, _+_, _*_, _/_, _%_, _^_, _-_, _<_, _≤_}
+use native.Mathlib.Nat.{mod-lt, zero-lt-suc, mul-add, div-le-self, lt-of-le-of-lt}
 use native.Mathlib.Decide.{ℕ-discrete, decLt}
 use native.Mathlib.Omega.{arith}
 use lib.Count.{ones, trailingZeros}
@@ -16,10 +16,10 @@ use borrow.Author.Tests.{eq-eqb, ne-eqb}
 use Rattle.sets.specs.Sets.{count, _with_, _without_}
 use Rattle.sets.proofs.Counting.{count-≡, count-add}
 use Rattle.bits.specs.Sets.{bit, member, changed, putIn}
-use Rattle.bits.specs.Rows.{takenOut, Words, lowestBelow}
+use Rattle.bits.specs.Rows.{takenOut, Words, lowestFrom}
 use Rattle.bits.specs.declared.Found.the-variants.{At}
 use Rattle.bits.proofs.Least.{lowestFrom-at}
-use Rattle.bits.proofs.Bit.{lowest-bit, ones-count, differs, differs-false, bit-of-zero, bit-or, bit-xor, bit-pow-same, bit-pow-other, same-bits}
+use Rattle.bits.proofs.Bit.{bit-past, bit-of-shifted, LowestBit, lowest-bit, ones-count, differs, differs-false, bit-of-zero, bit-or, bit-xor, bit-pow-same, bit-pow-other, same-bits}
 
 -- the word and the bit of an index tell the index
 same-index : (i j : ℕ) → i / 64 ≡ j / 64 → i % 64 ≡ j % 64 → i ≡ j
@@ -211,31 +211,69 @@ count-word s w h =
 -- ---- the lowest member
 
 -- a word without ones has no members
-pub none-in-zero : (s : List ℕ) (w : ℕ) → getD s w 0 ≡ 0 → ((j : ℕ) → j < 64 * w → member s j ≡ false)
-    → (j : ℕ) → j < 64 * (w + 1) → member s j ≡ false
+pub none-in-zero : (s : List ℕ) (i w : ℕ) → getD s w 0 ≡ 0 → ((j : ℕ) → i ≤ j → j < 64 * w → member s j ≡ false)
+    → (j : ℕ) → i ≤ j → j < 64 * (w + 1) → member s j ≡ false
 unfolding member
-none-in-zero s w e below j h =
+none-in-zero s i w e below j from h =
     elim (decLt j (64 * w)) [
-      | yes l ↦ below j l
+      | yes l ↦ below j from l
       | no l ↦
           let q : j / 64 ≡ w = omega arith in
           ap (λ (x : ℕ). bit x (j % 64)) (ap (λ (x : ℕ). getD s x 0) q ∙ e) ∙ bit-of-zero (j % 64)
     ]
 
 -- the lowest one of the first word that has any
-pub lowest-in-word : (s : List ℕ) (n w : ℕ) → 64 * (w + 1) ≤ n → getD s w 0 < 2 ^ 64 → getD s w 0 ≢ 0
-    → ((j : ℕ) → j < 64 * w → member s j ≡ false) → At (64 * w + trailingZeros 64 (getD s w 0)) ≡ lowestBelow n (member s)
-lowest-in-word s n w room h ne below =
+lowest-in-word : (s : List ℕ) (n i w : ℕ) → i ≤ 64 * w → 64 * (w + 1) ≤ i + n → getD s w 0 < 2 ^ 64 → getD s w 0 ≢ 0
+    → ((j : ℕ) → i ≤ j → j < 64 * w → member s j ≡ false) → At (64 * w + trailingZeros 64 (getD s w 0)) ≡ lowestFrom n i (member s)
+lowest-in-word s n i w from room h ne below =
     let x = getD s w 0 in
     let low = lowest-bit 64 x h ne in
-    sym (lowestFrom-at n 0 (64 * w + trailingZeros 64 x) (member s) zero-le (omega (arith, low .below))
+    sym (lowestFrom-at n i (64 * w + trailingZeros 64 x) (member s) (omega arith) (omega (arith, low .below))
     (member-in-word s w (trailingZeros 64 x) (low .below) ∙ low .one)
     (λ j z l. elim (decLt j (64 * w)) [
-      | yes b ↦ below j b
+      | yes b ↦ below j z b
       | no b ↦
           let q : 64 * w + (j - 64 * w) ≡ j = omega arith in
           ap (member s) (sym q) ∙ member-in-word s w (j - 64 * w) (omega (arith, low .below)) ∙ low .zeros (j - 64 * w) (omega arith)
     ]))
+
+-- the word of i, shifted down to it
+module _ (s : List ℕ) (i : ℕ) {x : ℕ} (shifted : x ≡ getD s (i / 64) 0 / 2 ^ (i % 64)) where
+  member-shifted : (j : ℕ) → i % 64 + j < 64 → member s (i + j) ≡ bit x j
+  unfolding member
+  member-shifted j h =
+      let q : (i + j) / 64 ≡ i / 64 = omega arith in
+      let r : (i + j) % 64 ≡ i % 64 + j = omega arith in
+      ap₂ (λ (y k : ℕ). bit (getD s y 0) k) q r ∙ sym (bit-of-shifted (getD s (i / 64) 0) (i % 64) j) ∙ ap (λ (y : ℕ). bit y j) (sym shifted)
+
+  -- no ones are left: no members in the rest of the word
+  pub none-shifted : x ≡ 0 → (j : ℕ) → i ≤ j → j < 64 * (i / 64 + 1) → member s j ≡ false
+  none-shifted e j from h =
+      let q : i + (j - i) ≡ j = omega arith in
+      ap (member s) (sym q) ∙ member-shifted (j - i) (omega arith) ∙ ap (λ (y : ℕ). bit y (j - i)) e ∙ bit-of-zero (j - i)
+
+  module _ (word : getD s (i / 64) 0 < 2 ^ 64) (ne : x ≢ 0) where
+    low : LowestBit 64 x (trailingZeros 64 x)
+    low = lowest-bit 64 x (rw shifted (lt-of-le-of-lt (div-le-self (getD s (i / 64) 0) (2 ^ (i % 64))) word)) ne
+
+    -- a one that is left is one of the word
+    inside-word : i % 64 + trailingZeros 64 x < 64
+    inside-word =
+        elim (decLt (i % 64 + trailingZeros 64 x) 64) [
+          | yes h ↦ h
+          | no h ↦
+              absurd (true≢false (sym (low .one) ∙ ap (λ (y : ℕ). bit y (trailingZeros 64 x)) shifted
+              ∙ bit-of-shifted (getD s (i / 64) 0) (i % 64) (trailingZeros 64 x)
+              ∙ bit-past 64 (getD s (i / 64) 0) (i % 64 + trailingZeros 64 x) word (omega arith)))
+        ]
+
+    pub lowest-shifted : (n : ℕ) → 64 * (i / 64 + 1) ≤ i + n → At (i + trailingZeros 64 x) ≡ lowestFrom n i (member s)
+    lowest-shifted n room =
+        let t = trailingZeros 64 x in
+        sym (lowestFrom-at n i (i + t) (member s) (omega arith) (omega (arith, inside-word)) (member-shifted t inside-word ∙ low .one)
+        (λ j from l.
+        let q : i + (j - i) ≡ j = omega arith in
+        ap (member s) (sym q) ∙ member-shifted (j - i) (omega (arith, inside-word)) ∙ low .zeros (j - i) (omega arith)))
 
 -- ---- the turns of the two loops
 
@@ -243,8 +281,8 @@ pub count-turn : (s : List ℕ) (w : ℕ) {n x : ℕ} → getD s w 0 < 2 ^ 64 �
     → n + ones x ≡ count (64 * (w + 1)) (member s)
 count-turn s w h e inv = ap₂ (λ (m y : ℕ). m + ones y) inv e ∙ sym (count-word s w h)
 
-pub lowest-turn : (s : List ℕ) (n w : ℕ) {x : ℕ} → 64 * (w + 1) ≤ n → getD s w 0 < 2 ^ 64 → x ≡ getD s w 0 → x ≢ 0
-    → ((j : ℕ) → j < 64 * w → member s j ≡ false) → At (64 * w + trailingZeros 64 x) ≡ lowestBelow n (member s)
-lowest-turn s n w room h e ne below =
+pub lowest-turn : (s : List ℕ) (n i w : ℕ) {x : ℕ} → i ≤ 64 * w → 64 * (w + 1) ≤ i + n → getD s w 0 < 2 ^ 64 → x ≡ getD s w 0 → x ≢ 0
+    → ((j : ℕ) → i ≤ j → j < 64 * w → member s j ≡ false) → At (64 * w + trailingZeros 64 x) ≡ lowestFrom n i (member s)
+lowest-turn s n i w from room h e ne below =
     ap (λ (y : ℕ). At (64 * w + trailingZeros 64 y)) e
-    ∙ lowest-in-word s n w room h (λ z. ne (e ∙ z)) below
+    ∙ lowest-in-word s n i w from room h (λ z. ne (e ∙ z)) below

@@ -1,5 +1,5 @@
 -- Laws of the lowest number that passes a test.
-use mathlib.Core.Path.{_≡_, refl, sym, ap, _∙_}
+use mathlib.Core.Path.{_≡_, refl, sym, ap, ap₂, _∙_}
 use mathlib.Core.Bool.{Bool, true, false, cond}
 use Prim.Native.Nat.{ℕ, zero, suc, _+_, _≤_, _<_}
 use native.Mathlib.Decide.{ℕ-discrete}
@@ -26,6 +26,22 @@ lowestFrom-nothing zero i p none = refl
 lowestFrom-nothing (suc n) i p none =
     ap (λ (b : Bool). cond b (At i) (lowestFrom n (suc i) p)) (none i (omega arith) (omega arith))
     ∙ lowestFrom-nothing n (suc i) p (λ j a b. none j (omega arith) (omega arith))
+
+-- it is looked for later if nothing passes before
+pub lowestFrom-later : (n i m k : ℕ) (p : ℕ → Bool) → i ≤ k → i + n ≡ k + m → ((j : ℕ) → i ≤ j → j < k → p j ≡ false)
+    → lowestFrom n i p ≡ lowestFrom m k p
+unfolding lowestFrom
+lowestFrom-later zero i m k p h e none =
+    let q : i ≡ k = omega arith in
+    let z : 0 ≡ m = omega arith in
+    ap₂ (λ (x y : ℕ). lowestFrom x y p) z q
+lowestFrom-later (suc n) i m k p h e none =
+    elim (ℕ-discrete i k) [
+      | yes q ↦ let z : suc n ≡ m = omega arith in ap₂ (λ (x y : ℕ). lowestFrom x y p) z q
+      | no q ↦
+          ap (λ (b : Bool). cond b (At i) (lowestFrom n (suc i) p)) (none i (omega arith) (omega arith))
+          ∙ lowestFrom-later n (suc i) m k p (omega arith) (omega arith) (λ j a b. none j (omega arith) b)
+    ]
 
 -- what is found passes, and nothing below it does
 pub record LowestIs (n i m : ℕ) (p : ℕ → Bool) : Type 0 where

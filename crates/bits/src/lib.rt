@@ -1,10 +1,11 @@
 ghost use mathlib.Core.Path.{_≡_};
+ghost use Prim.Native.Nat.{_-_, _*_, _<_, _≤_};
 ghost use lib.Bits.{bitXor};
 ghost use lib.ListN.{getD};
 ghost use Rattle.limits.specs.Limits.{mostAtoms, mostCodes};
 ghost use Rattle.sets.specs.Sets.{count};
 ghost use Rattle.bits.specs.Sets.{changed, member, putIn};
-ghost use Rattle.bits.specs.Rows.{takenOut, lowestBelow};
+ghost use Rattle.bits.specs.Rows.{takenOut, lowestFrom, lowestBelow};
 
 // A member that was looked for.
 pub enum Found {
@@ -73,11 +74,12 @@ pub fn count(set: &[u64]) -> usize
     n
 }
 
-// The lowest number below 1,024 that is in the set.
-pub fn lowest(set: &[u64]) -> Found
-    ensures { λ r. ⌜ r ≡ lowestBelow mostCodes (member (now (set .entry))) ⌝ }
+// The lowest number below 1,024 that is in the set, from word `first` on.
+fn lowest_in_words(set: &[u64], first: usize) -> Found
+    requires { ⌜ first ≤ 16 ⌝ }
+    ensures { λ r. ⌜ r ≡ lowestFrom (mostCodes - 64 * first) (64 * first) (member (now (set .entry))) ⌝ }
 {
-    let mut w: usize = 0;
+    let mut w = first;
     while w < 16 {
         let x = word(set, w);
         if x != 0 {
@@ -86,4 +88,24 @@ pub fn lowest(set: &[u64]) -> Found
         w += 1;
     }
     Found::Nothing
+}
+
+// The lowest number below 1,024 that is in the set.
+pub fn lowest(set: &[u64]) -> Found
+    ensures { λ r. ⌜ r ≡ lowestBelow mostCodes (member (now (set .entry))) ⌝ }
+{
+    lowest_in_words(set, 0)
+}
+
+// The lowest number from `i` on below 1,024 that is in the set.
+pub fn lowest_from(set: &[u64], i: usize) -> Found
+    requires { ⌜ i < mostCodes ⌝ }
+    ensures { λ r. ⌜ r ≡ lowestFrom (mostCodes - i) i (member (now (set .entry))) ⌝ }
+{
+    let w = i / 64;
+    let x = word(set, w) >> (i % 64);
+    if x != 0 {
+        return Found::At(i + u64::trailing_zeros(x) as usize);
+    }
+    lowest_in_words(set, w + 1)
 }

@@ -7,7 +7,7 @@ ghost use Rattle.sets.specs.Some.{someBelow};
 ghost use Rattle.bits.specs.Sets.{member};
 ghost use Rattle.words.specs.Layout.{rulesOf};
 ghost use Rattle.paper.specs.Rules.{HeadsBelow};
-ghost use Rattle.least.specs.Passing.{Records};
+ghost use Rattle.index.specs.Placed.{Table};
 ghost use Rattle.conflict.specs.Both.{bothIn, InConflict};
 ghost use Rattle.conflict.specs.Conflict.{ConflictAllows};
 
@@ -39,11 +39,14 @@ fn some_both_in(set: &[u64], n: usize) -> bool
 
 // One Held, without a mark, and a look at each atom.
 fn held_both(table: &[u16], n: usize) -> bool
-    requires { ⌜ (n ≤ mostAtoms) × Records (now table) 0 × HeadsBelow n (rulesOf (now table)) ⌝ }
+    requires { ⌜ (n ≤ mostAtoms) × Table (now table) × HeadsBelow n (rulesOf (now table)) ⌝ }
     ensures { λ r. ⌜ InConflict (rulesOf (now (table .entry))) r ⌝ }
 {
     let marks = [0u64; 8];
-    let held = least::held(table, &marks);
+    let mut index = [0u16; index::CELLS];
+    let mut facts = [0u64; 16];
+    index::build(table, &mut index, &mut facts);
+    let held = pending::held(table, &index, facts, &marks);
     some_both_in(&held, n)
 }
 

@@ -1,9 +1,9 @@
 -- The settled marking's values are those of the smallest well-supported model. Assumes nothing.
 use mathlib.Core.Bool.{Bool, false}
 use mathlib.Core.List.{List}
-use mathlib.Core.Path.{_≡_, refl, ap, _∙_, subst⁻¹, fun-ext}
+use mathlib.Core.Path.{_≡_, refl, ap, _∙_, sym, subst, subst⁻¹, fun-ext}
 use Prim.Native.Nat.{ℕ, _≤_}
-use lib.Dec.{leb}
+use lib.Dec.{T, leb}
 use lib.ListN.{length, replicate}
 use borrow.Author.Tests.{leb-true, le-leb}
 use Rattle.refusal.specs.Numbers.{too-many-atoms, value-room-too-small}
@@ -13,15 +13,17 @@ use Rattle.words.specs.Check.{tableCheck, AcceptedTable, tableTooLong, tooManyA
 use Rattle.words.specs.Layout.{rulesOf}
 use Rattle.refusal.proofs.Laws.{asking-accepted, orElse-accepted}
 use Rattle.words.proofs.Laws.{accepted-one-rule, accepted-atoms, accepted-length}
-use Rattle.paper.specs.Rules.{Rule, HeadsBelow, positive}
+use Rattle.paper.specs.Rules.{Rule, HeadsBelow, atom, positive}
 use Rattle.paper.specs.Definitions.{value}
-use Rattle.paper.specs.Marking.{IsClean, Marking, none, settledValue}
+use Rattle.paper.specs.Marking.{IsHeld, IsClean, Marking, none, settledValue}
 use Rattle.paper.proofs.Leasts.{clean→held, held→clean}
 use Rattle.paper.proofs.Settled.{settledValue-is}
 use Rattle.paper.proofs.Smallest.{settled-smallest}
 use Rattle.bits.specs.Sets.{member}
 use Rattle.bits.proofs.Laws.{member-of-zeros}
-use Rattle.least.proofs.Marked.{none-held}
+use Rattle.index.specs.Index.{FactsOf}
+use Rattle.pending.specs.Pending.{PairsOf, Closed}
+use Rattle.pending.proofs.Marked.{clean-there}
 use Rattle.values.specs.Values.{roomTooSmall, written}
 use Rattle.refusal.specs.declared.Checked.{Checked}
 use Rattle.evaluation.specs.Evaluation.{evaluationFault, EvaluationAllows}
@@ -36,8 +38,21 @@ begins R =
       held-length = refl;
       made = 0;
       marking = subst⁻¹ (λ (A : ℕ → Bool). Marking R 0 A) (fun-ext (member-of-zeros 8)) none;
-      held = λ l t. none-held R (member (replicate 8 0)) l t;
+      held = λ l t. absurd (subst T (member-of-zeros 16 l) t);
     }
+
+-- the literals of no marks
+pub no-pairs : PairsOf (replicate 16 0) (member (replicate 8 0))
+no-pairs l = member-of-zeros 16 l ∙ sym (member-of-zeros 8 (atom l))
+
+-- closed from the facts with nothing shut out: the clean literals of no marks, and the held ones
+pub first-clean : (t f held ready counts : List ℕ) → FactsOf t f → Closed t (replicate 16 0) f (replicate 16 0) held ready counts
+    → IsClean (rulesOf t) (member (replicate 8 0)) (member held)
+first-clean t f held ready counts facts c = clean-there (member (replicate 8 0)) t f (replicate 16 0) held ready counts facts no-pairs c
+
+pub clean-held : (R : List Rule) (h : List ℕ) → IsClean R (member (replicate 8 0)) (member h) → IsHeld R (member (replicate 8 0)) (member h)
+clean-held R h clean l =
+    ((λ t. clean→held (member (replicate 8 0)) (clean l .0 t)), λ d. clean l .1 (held→clean (member (replicate 8 0)) (member-of-zeros 8) d))
 
 -- the first round: with no marks the clean literals are the held ones
 pub first-round : (R : List Rule) (n : ℕ) → HeadsBelow n R → n ≤ 512
@@ -47,8 +62,7 @@ first-round R n below le h s′ any len clean o =
     round-settles R n below le (replicate 8 0) s′ (replicate 16 0) h any (begins R)
     (record {
       held-length = len;
-      held =
-          λ l. ((λ t. clean→held (member (replicate 8 0)) (clean l .0 t)), λ d. clean l .1 (held→clean (member (replicate 8 0)) (member-of-zeros 8) d));
+      held = clean-held R h clean;
       clean = member h;
       clean-is = clean;
       over = o;

@@ -1,15 +1,18 @@
 -- Stage: a round of marking: every atom that can be marked is marked, as if one at a time.
 use mathlib.Core.Bool.{Bool, true, false}
 use mathlib.Core.List.{List}
+use mathlib.Core.Logic.{_⊎_}
 use mathlib.Core.Path.{_≡_}
 use Prim.Native.Nat.{ℕ, zero, suc}
 use lib.Dec.{T}
-use lib.ListN.{length}
-use Rattle.paper.specs.Rules.{Rule}
+use lib.ListN.{length, replicate}
+use Rattle.paper.specs.Rules.{Rule, atom}
 use Rattle.paper.specs.Definitions.{Interpretation}
-use Rattle.paper.specs.Marking.{Held, Settled, Marking, IsHeld, IsClean}
+use Rattle.paper.specs.Marking.{Marked, Held, Settled, Marking, IsHeld, IsClean}
 use Rattle.sets.specs.Some.{someBelow}
 use Rattle.bits.specs.Sets.{member, putIn}
+use Rattle.words.specs.Layout.{rulesOf}
+use Rattle.pending.specs.Pending.{PairsOf, withPair, Working}
 use Rattle.marking.specs.Markable.{markable}
 
 -- the marks after one atom was looked at
@@ -21,6 +24,11 @@ markedOne s a false = s
 unfoldable pub markedBelow : List ℕ → (ℕ → Bool) → (ℕ → Bool) → ℕ → List ℕ
 markedBelow s H C zero = s
 markedBelow s H C (suc a) = markedOne (markedBelow s H C a) a (markable (member s) H C a)
+
+-- a row with both literals of each atom below n that was marked then
+unfoldable pub pairedBelow : List ℕ → List ℕ → (ℕ → Bool) → (ℕ → Bool) → ℕ → List ℕ
+pairedBelow u s H C zero = u
+pairedBelow u s H C (suc a) = withPair (pairedBelow u s H C a) a (markable (member s) H C a)
 
 -- the marks s became s′ by looking at the atoms below n, and any says whether one was marked
 pub record RoundOver (s : List ℕ) (H C : ℕ → Bool) (n : ℕ) (any : Bool) (s′ : List ℕ) : Type 0 where
@@ -47,3 +55,11 @@ pub record Round (R : List Rule) (n : ℕ) (s s′ h′ : List ℕ) (any : Bool)
   pub clean : Interpretation
   pub clean-is : IsClean R (member s) clean
   pub over : RoundOver s (member h′) clean n any s′
+
+-- between rounds: the literals of the marks s are in their row; what is held and pending is held, the marked literals among it
+pub record Standing (t s shut h ready counts : List ℕ) : Type 0 where
+  pub shut-row : length shut ≡ 16
+  pub pairs : PairsOf shut (member s)
+  pub working : Working t h ready counts (replicate 16 0)
+  pub pending : (l : ℕ) → T (member ready l) → Held (rulesOf t) (member s) l
+  pub marked : (l : ℕ) → Marked (member s) (atom l) → T (member h l) ⊎ T (member ready l)

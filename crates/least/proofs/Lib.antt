@@ -1,6 +1,4 @@
 pub mod Groups
 pub mod Walk
-pub mod Passing
-pub mod Fixed
-pub mod Marked
+pub mod Recorded
 mod Examples

@@ -7,7 +7,7 @@ ghost use Rattle.limits.specs.Limits.{mostAtoms};
 ghost use Rattle.sets.specs.Some.{someBelow};
 ghost use Rattle.bits.specs.Sets.{member};
 ghost use Rattle.words.specs.Layout.{rulesOf};
-ghost use Rattle.least.specs.Passing.{Records};
+ghost use Rattle.index.specs.Index.{IndexOf, FactsOf};
 ghost use mathlib.Core.Logic.{_↔_};
 ghost use Rattle.paper.specs.Rules.{HeadsBelow};
 ghost use Rattle.paper.specs.Marking.{CanBeMarked};
@@ -72,21 +72,27 @@ fn some_markable(marks: &[u64], held: &[u64], clean: &[u64], n: usize) -> bool
 }
 
 // Can atom `a` be marked, by the rules of the table?
-pub fn can_be_marked(table: &[u16], marks: &[u64], a: usize) -> bool
-    requires { ⌜ (a < mostAtoms) × (length (now marks) ≡ 8) × Records (now table) 0 ⌝ }
+pub fn can_be_marked(
+    table: &[u16],
+    index: &[u16],
+    facts: [u64; 16],
+    marks: &[u64],
+    a: usize,
+) -> bool
+    requires { ⌜ (a < mostAtoms) × (length (now marks) ≡ 8) × IndexOf (now table) (now index) × FactsOf (now table) facts ⌝ }
     ensures { λ r. ⌜ T r ↔ CanBeMarked (rulesOf (now (table .entry))) (member (now (marks .entry))) a ⌝ }
 {
-    let held = least::held(table, marks);
-    let clean = least::clean(table, marks);
+    let held = pending::held(table, index, facts, marks);
+    let clean = pending::clean(table, index, facts, marks);
     is_markable(marks, &held, &clean, a)
 }
 
 // Can any atom be marked, by the rules of the table?
-pub fn can_go_on(table: &[u16], marks: &[u64], n: usize) -> bool
-    requires { ⌜ (n ≤ mostAtoms) × (length (now marks) ≡ 8) × Records (now table) 0 × HeadsBelow n (rulesOf (now table)) ⌝ }
+pub fn can_go_on(table: &[u16], index: &[u16], facts: [u64; 16], marks: &[u64], n: usize) -> bool
+    requires { ⌜ (n ≤ mostAtoms) × (length (now marks) ≡ 8) × IndexOf (now table) (now index) × FactsOf (now table) facts × HeadsBelow n (rulesOf (now table)) ⌝ }
     ensures { λ r. ⌜ GoesOn (rulesOf (now (table .entry))) (member (now (marks .entry))) r ⌝ }
 {
-    let held = least::held(table, marks);
-    let clean = least::clean(table, marks);
+    let held = pending::held(table, index, facts, marks);
+    let clean = pending::clean(table, index, facts, marks);
     some_markable(marks, &held, &clean, n)
 }

@@ -55,7 +55,10 @@ fn mark_atom(record: MarkRecord, table: &[u16], atom: u64) -> Picked
             record,
         };
     }
-    if marking::can_be_marked(table, &marks, a) {
+    let mut index = [0u16; index::CELLS];
+    let mut facts = [0u64; 16];
+    index::build(table, &mut index, &mut facts);
+    if marking::can_be_marked(table, &index, facts, &marks, a) {
         let marked = records::with_mark(record, a);
         return Picked {
             answer: PickAnswer::Marked,
@@ -115,7 +118,10 @@ pub fn settled(record: MarkRecord, table: &[u16]) -> Decided
     }
     let n = record.n;
     let marks = record.marks;
-    if marking::can_go_on(table, &marks, n as usize) {
+    let mut index = [0u16; index::CELLS];
+    let mut facts = [0u64; 16];
+    index::build(table, &mut index, &mut facts);
+    if marking::can_go_on(table, &index, facts, &marks, n as usize) {
         return Decided::No;
     }
     Decided::Yes
@@ -140,11 +146,14 @@ fn report_settled(record: MarkRecord, table: &[u16], values: &mut [u8]) -> Check
 {
     let n = record.n;
     let marks = record.marks;
-    let goes_on = marking::can_go_on(table, &marks, n as usize);
+    let mut index = [0u16; index::CELLS];
+    let mut facts = [0u64; 16];
+    index::build(table, &mut index, &mut facts);
+    let goes_on = marking::can_go_on(table, &index, facts, &marks, n as usize);
     if goes_on {
         return refusal::refused(refusal::NOT_SETTLED, 0);
     }
-    let held = least::held(table, &marks);
+    let held = pending::held(table, &index, facts, &marks);
     values::write_values(values, &marks, &held, n as usize);
     Checked::Accepted
 }

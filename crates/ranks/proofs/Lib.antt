@@ -5,4 +5,4 @@ pub mod Passes
 pub mod Sound
 pub mod FoundLines
 pub mod Adding
-pub mod Turns
+pub mod Counted

@@ -86,13 +86,17 @@ moves-trans {a} {b} {c} m n =
       still = λ e. let p = m .more in let q = n .more in n .still (omega arith) ∙ m .still (omega arith);
     }
 
--- what has a line is one of 1,024 literals
-pub ranked-below : (st : Found) → Fit st → (l : ℕ) → T (member (st .ranked) l) → l < 1024
-ranked-below st f l m =
+-- what is in a row of 16 words is below 1,024
+pub row-below : (s : List ℕ) → length s ≡ 16 → (l : ℕ) → T (member s l) → l < 1024
+row-below s row l m =
     elim (native.Mathlib.Decide.decLt l 1024) [
       | yes h ↦ h
-      | no h ↦ absurd (subst T (member-past (st .ranked) l (let e = f .row in omega arith)) m)
+      | no h ↦ absurd (subst T (member-past s l (omega arith)) m)
     ]
+
+-- what has a line is one of 1,024 literals
+pub ranked-below : (st : Found) → Fit st → (l : ℕ) → T (member (st .ranked) l) → l < 1024
+ranked-below st f = row-below (st .ranked) (f .row)
 
 module _ (st : Found) (l head group : ℕ) (fit : Fit st) (below : l < 1024) where
   ranked-with : member (withLine st l head group .ranked) ≡ member (st .ranked) with l

@@ -10,7 +10,7 @@ use Rattle.paper.specs.Rules.{Rule, HeadsBelow}
 use Rattle.paper.specs.Marking.{Marks}
 use Rattle.bits.specs.Sets.{member}
 use Rattle.ranks.specs.Found.{Found, Fit, overRules, passesOf, atRest}
-use Rattle.ranks.proofs.Lines.{Moves, moves-refl, moves-trans}
+use Rattle.ranks.proofs.Lines.{Moves}
 use Rattle.ranks.proofs.Rules.{pass-moves}
 
 -- there are no more lines than literals
@@ -30,11 +30,6 @@ module _ (pass : Found → Found) where
   passes-keep Inv keeps (suc n) st i = passes-keep Inv keeps n (pass st) (keeps st i)
 
   module _ (moves : (st : Found) → Fit st → Moves st (pass st)) where
-    passes-move : (n : ℕ) (st : Found) → Fit st → Moves st (passesOf n pass st)
-    unfolding passesOf
-    passes-move zero st f = moves-refl f
-    passes-move (suc n) st f = let m = moves st f in moves-trans m (passes-move n (pass st) (m .fit))
-
     -- as many passes as there can be lines still, and one, are enough
     passes-enough : (n m : ℕ) (st : Found) → Fit st → 1024 < n + st .next-rank → 1024 < m + st .next-rank
         → passesOf n pass st ≡ passesOf m pass st
@@ -82,10 +77,6 @@ module _ (marked : Bool) (clean : List ℕ) (A : Marks) (R : List Rule) where
   at-rest-there st e = passes-still (overRules marked clean A R) 1025 st e
 
   module _ (below : HeadsBelow 512 R) where
-    pub rest-moves : (st : Found) → Fit st → Moves st (atRest marked clean A R st)
-    unfolding atRest
-    rest-moves st f = passes-move (overRules marked clean A R) (pass-moves marked clean A R below) 1025 st f
-
     pub at-rest : (st : Found) → Fit st → overRules marked clean A R (atRest marked clean A R st) ≡ atRest marked clean A R st
     unfolding atRest
     at-rest st f = passes-rest (overRules marked clean A R) (pass-moves marked clean A R below) 1025 st f (omega arith)

@@ -1,2 +1,3 @@
 -- The ranks, and the lines of a reason sheet.
 pub mod Found
+pub mod Counted

@@ -103,9 +103,12 @@ fn write_settled(n: usize, table: &[u16], text: &mut [u8]) -> Numbered
     requires { ⌜ AcceptedTable n (now table) ⌝ }
     ensures { λ r. ⌜ ReasonsAllows n (now (table .entry)) (now (text .entry)) r (now (text .exit)) ⌝ }
 {
-    let m = evaluation::settle(table, n);
+    let mut index = [0u16; index::CELLS];
+    let mut facts = [0u64; 16];
+    index::build(table, &mut index, &mut facts);
+    let m = evaluation::settle(table, &index, facts, n);
     let marks = m.marks;
-    let found = ranks::find_reasons(table, &marks);
+    let found = waiting::find_reasons(table, &index, &marks);
     let ranked = found.ranked;
     let lines = found.lines;
     print_sheet(text, &ranked, &lines, 2 * n)

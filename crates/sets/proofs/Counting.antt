@@ -62,6 +62,13 @@ count-with-above : (N : ℕ) (S : ℕ → Bool) (a : ℕ) → N ≤ a → count 
 count-with-above N S a h =
     count-≡ N (S with a) S (λ b lt. rw (refuted→false (eqb b a) (λ t. let e = eqb→eq b a t in absurd (omega arith))))
 
+-- all of them are counted
+pub count-all : (N : ℕ) (S : ℕ → Bool) → ((a : ℕ) → a < N → T (S a)) → count N S ≡ N
+unfolding count
+count-all zero S all = refl
+count-all (suc n) S all =
+    ap (λ (b : Bool). cond b (suc (count n S)) (count n S)) (T→true (S n) (all n (omega arith))) ∙ ap suc (count-all n S (λ a lt. all a (omega arith)))
+
 -- one more member
 pub count-with : (N : ℕ) (S : ℕ → Bool) (a : ℕ) → a < N → T (not (S a)) → count N (S with a) ≡ suc (count N S)
 unfolding count

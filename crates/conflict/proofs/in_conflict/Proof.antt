@@ -2,7 +2,7 @@ use borrow.Author.Needs.{needs}
 use mathlib.Core.Path.{sym, _∙_}
 use Rattle.words.specs.Check.{AcceptedTable}
 use Rattle.words.proofs.Laws.{accepted-atoms, accepted-heads}
-use Rattle.least.proofs.Marked.{accepted-records}
+use Rattle.index.proofs.Placed.{accepted-table}
 use Rattle.refusal.specs.Questions.{QuestionAllows}
 use Rattle.conflict.proofs.in_conflict.Statement.{statement}
 use Rattle.conflict.proofs.in_conflict.Tie as tie
@@ -26,7 +26,7 @@ held-both-requires c κs =
     let N = entry .args .n in
     let t = entry .args .table .now in
     let accepted : AcceptedTable N t = sym (c .before .before .check .ensures) ∙ c .enum-told .given .1 in
-    (accepted-atoms N t accepted, accepted-records N t accepted, accepted-heads N t accepted)
+    (accepted-atoms N t accepted, accepted-table N t accepted, accepted-heads N t accepted)
 
 returns-2 : tie.Need-returns-2
 returns-2 c =

@@ -1,6 +1,6 @@
 use borrow.Author.Needs.{needs}
 use Rattle.bits.specs.Sets.{member}
-use Rattle.least.proofs.Passing.{fact-there, body-there}
+use Rattle.least.proofs.Recorded.{fact-there, body-there}
 use Rattle.least.proofs.which_group.Statement.{statement}
 use Rattle.least.proofs.which_group.Tie as tie
 

@@ -21,7 +21,7 @@ is-markable-requires c κs = search needs
 
 returns : tie.Need-returns
 returns c =
-    let entry = c .before .before .before .before .before .before .before in
+    let entry = c .before .before .before .before .before .before .before .before in
     let at-held = c .before .before .before .before .held in
     rw (c .is-markable .ensures) (markable-is _ (member (entry .args .marks .now)) (member (at-held .result))
     (member (c .before .before .before .clean .result)) (at-held .ensures) (c .before .before .before .clean .ensures) (entry .args .a))

@@ -21,10 +21,10 @@ some-markable-requires c κs = search needs
 
 returns : tie.Need-returns
 returns c =
-    let entry = c .before .before .before .before .before .before .before in
+    let entry = c .before .before .before .before .before .before .before .before in
     let at-held = c .before .before .before .before .held in
     goes-on _ (member (entry .args .marks .now)) (member (at-held .result)) (member (c .before .before .before .clean .result))
-    (at-held .ensures) (c .before .before .before .clean .ensures) (entry .args .n) (entry .pre .3) _ (c .some-markable .ensures)
+    (at-held .ensures) (c .before .before .before .clean .ensures) (entry .args .n) (entry .pre .4) _ (c .some-markable .ensures)
 
 pub can-go-on-spec : {M : Type 1} → statement M
 can-go-on-spec =

@@ -1,9 +1,9 @@
 use borrow.Author.Needs.{needs}
-use mathlib.Core.Path.{sym, _∙_}
+use mathlib.Core.Path.{refl, sym, _∙_}
 use Rattle.picks.proofs.Accepted.{settled-accepted}
 use Rattle.records.proofs.Laws.{record-good}
 use Rattle.words.proofs.Laws.{accepted-heads}
-use Rattle.least.proofs.Marked.{accepted-records}
+use Rattle.index.proofs.Placed.{accepted-table}
 use Rattle.refusal.specs.Questions.{QuestionAllows}
 use Rattle.picks.proofs.settled.Statement.{statement}
 use Rattle.picks.proofs.settled.Tie as tie
@@ -15,37 +15,59 @@ enum-known-r : tie.Need-enum-known-r
 enum-known-r c = search needs
 
 returns : tie.Need-returns
-returns c =
-    QuestionAllows.refused (sym (c .before .before .before .settled-fault .ensures) ∙ c .before .r .given .1)
+returns c = QuestionAllows.refused (sym (c .before .before .before .settled-fault .ensures) ∙ c .before .r .given .1)
 
 enum-told : tie.Need-enum-told
 enum-told c = search needs
 
+slice-aggregate-build : tie.Need-slice-aggregate-build
+slice-aggregate-build c = search needs
+
+slice-aggregate-build-2 : tie.Need-slice-aggregate-build-2
+slice-aggregate-build-2 c = search needs
+
+build-requires : tie.Need-build-requires
+build-requires c κs =
+    let entry = c .before .before .before .before .before .before .before in
+    let at-settled-fault = c .before .before .before .before .before .settled-fault in
+    let at-enum-told = c .before .before .before .enum-told in (
+      accepted-table (entry .args .record .n) (entry .args .table .now) (settled-accepted (entry .args .record) (entry .args .table .now) (sym
+          (at-settled-fault .ensures) ∙ at-enum-told .given .1) .1),
+      refl,
+      refl,
+    )
+
 slice-aggregate-can-go-on : tie.Need-slice-aggregate-can-go-on
 slice-aggregate-can-go-on c = search needs
 
+slice-aggregate-can-go-on-2 : tie.Need-slice-aggregate-can-go-on-2
+slice-aggregate-can-go-on-2 c = search needs
+
 can-go-on-requires : tie.Need-can-go-on-requires
 can-go-on-requires c κs =
-    let entry = c .before .before .before .before .before .before in
-    let at-settled-fault = c .before .before .before .before .settled-fault in
-    let table = entry .args .table .now in
-    let p = settled-accepted (entry .args .record) table (sym (at-settled-fault .ensures) ∙ c .before .before .enum-told .given .1) in (
-      record-good _ (p .0) .at-most-512,
+    let entry = c .before .before .before .before .before .before .before .before .before .before .before .before in
+    let at-settled-fault = c .before .before .before .before .before .before .before .before .before .before .settled-fault in
+    let at-enum-told = c .before .before .before .before .before .before .before .before .enum-told in
+    let at-build = c .before .before .before .before .build in (
+      record-good _ (settled-accepted (entry .args .record) (entry .args .table .now) (sym (at-settled-fault .ensures) ∙ at-enum-told .given .1) .0)
+          .at-most-512,
       search needs,
-      accepted-records (entry .args .record .n) table (p .1),
-      accepted-heads (entry .args .record .n) table (p .1),
+      at-build .ensures .0,
+      at-build .ensures .1,
+      accepted-heads (entry .args .record .n) (entry .args .table .now)
+          (settled-accepted (entry .args .record) (entry .args .table .now) (sym (at-settled-fault .ensures) ∙ at-enum-told .given .1) .1),
     )
 
 returns-2 : tie.Need-returns-2
 returns-2 c =
-    let at-settled-fault = c .before .before .before .before .before .before .settled-fault in
-    let at-enum-told = c .before .before .before .before .enum-told in
+    let at-settled-fault = c .before .before .before .before .before .before .before .before .before .before .before .before .settled-fault in
+    let at-enum-told = c .before .before .before .before .before .before .before .before .before .before .enum-told in
     QuestionAllows.answers-no (sym (at-settled-fault .ensures) ∙ at-enum-told .given .1) (c .before .can-go-on .ensures .when-true (c .if1 .taken))
 
 returns-3 : tie.Need-returns-3
 returns-3 c =
-    let at-settled-fault = c .before .before .before .before .before .before .settled-fault in
-    let at-enum-told = c .before .before .before .before .enum-told in
+    let at-settled-fault = c .before .before .before .before .before .before .before .before .before .before .before .before .settled-fault in
+    let at-enum-told = c .before .before .before .before .before .before .before .before .before .before .enum-told in
     QuestionAllows.answers-yes (sym (at-settled-fault .ensures) ∙ at-enum-told .given .1) (c .before .can-go-on .ensures .when-false (c .if1 .left))
 
 pub settled-spec : {M : Type 1} → statement M
@@ -56,7 +78,11 @@ settled-spec =
     enum-known-r
     returns
     enum-told
+    slice-aggregate-build
+    slice-aggregate-build-2
+    build-requires
     slice-aggregate-can-go-on
+    slice-aggregate-can-go-on-2
     can-go-on-requires
     returns-2
     returns-3)

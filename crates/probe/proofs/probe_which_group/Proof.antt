@@ -2,8 +2,8 @@ use borrow.Author.Needs.{needs}
 use mathlib.Core.Path.{sym, _∙_, subst⁻¹}
 use Rattle.bits.specs.Sets.{member}
 use Rattle.words.specs.Check.{AcceptedTable}
-use Rattle.least.proofs.Marked.{accepted-records}
-use Rattle.least.proofs.Passing.{here, records-nothing}
+use Rattle.least.proofs.Recorded.{accepted-records}
+use Rattle.least.proofs.Recorded.{here, records-nothing}
 use Rattle.probe.specs.Packed.{WhichPacked}
 use Rattle.probe.proofs.probe_which_group.Statement.{statement}
 use Rattle.probe.proofs.probe_which_group.Tie as tie

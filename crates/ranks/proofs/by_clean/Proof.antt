@@ -12,22 +12,19 @@ by-row-requires-2 c κs = search needs
 
 returns : tie.Need-returns
 returns c =
-    let args = c .before .before .before .before .before .before .before .args in
+    let entry = c .before .before .before .before .before .before .before in
+    let args = entry .args in
     let first = c .before .before .before .by-row in
-    let second = c .by-row2 in (
-      ranked-second (args .clean .now) (args .ranked .now) (ruleAt (args .table .now) (args .at) .groups)
-          (first .result .many) (first .result .group) (first .ensures .0) (c .before .if1 .taken) (second .ensures .0),
-      second .ensures .1,
-    )
+    ranked-second (args .clean .now) (args .ranked .now) (ruleAt (args .table .now) (args .at) .groups)
+    (first .result .many) (first .result .group) (first .ensures) (c .before .if1 .taken) (c .by-row2 .ensures)
 
 returns-2 : tie.Need-returns-2
 returns-2 c =
-    let args = c .before .before .before .before .before .before .args in
-    let first = c .before .before .by-row in (
-      clean-first (args .clean .now) (args .ranked .now) (ruleAt (args .table .now) (args .at) .groups)
-          (first .result .many) (first .result .group) (first .ensures .0) (c .if1 .left),
-      first .ensures .1,
-    )
+    let entry = c .before .before .before .before .before .before in
+    let args = entry .args in
+    let first = c .before .before .by-row in
+    clean-first (args .clean .now) (args .ranked .now) (ruleAt (args .table .now) (args .at) .groups)
+    (first .result .many) (first .result .group) (first .ensures) (c .if1 .left)
 
 pub by-clean-spec : {M : Type 1} → statement M
 by-clean-spec = tie.close (tie.spec by-row-requires by-row-requires-2 returns returns-2)

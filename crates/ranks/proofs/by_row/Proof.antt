@@ -15,15 +15,17 @@ enum-told c = search needs
 
 returns : tie.Need-returns
 returns c =
-    let args = c .before .before .before .before .before .before .args in
-    let asked = c .before .before .before .which-group .ensures in
-    (lines-by (args .many) (args .row .now) (ruleAt (args .table .now) (args .at) .groups) (asked .0) (c .before .which .given .1), asked .1)
+    let entry = c .before .before .before .before .before .before in
+    let args = entry .args in
+    lines-by (args .many) (args .row .now) (ruleAt (args .table .now) (args .at) .groups)
+    (c .before .before .before .which-group .ensures .0) (c .before .which .given .1)
 
 returns-2 : tie.Need-returns-2
 returns-2 c =
-    let args = c .before .before .before .before .before .args in
-    let asked = c .before .before .which-group .ensures in
-    (nothing-by (args .many) (args .row .now) (ruleAt (args .table .now) (args .at) .groups) (asked .0) (c .enum-told .given .1), asked .1)
+    let entry = c .before .before .before .before .before in
+    let args = entry .args in
+    nothing-by (args .many) (args .row .now) (ruleAt (args .table .now) (args .at) .groups)
+    (c .before .before .which-group .ensures .0) (c .enum-told .given .1)
 
 pub by-row-spec : {M : Type 1} → statement M
 by-row-spec =

@@ -1,0 +1,3 @@
+-- The groups of a table by their places, and the index of them.
+pub mod Placed
+pub mod Index

@@ -1,0 +1,2 @@
+-- Held and Clean from pending literals.
+pub mod Pending

@@ -1,0 +1,2 @@
+-- The records that wait to be looked at.
+pub mod Waiting
