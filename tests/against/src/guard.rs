@@ -41,6 +41,9 @@ pub struct Guarded<T> {
 
 const BEHIND: usize = 16;
 
+/// The places a row of bytes is lent from: at an even address and at an odd one.
+pub const BEFORE: [usize; 2] = [16, 13];
+
 impl<T: Fill> Guarded<T> {
     /// The guards in front decide the row's alignment: with an odd number of bytes it starts at an odd address.
     pub fn new(row: &[T], before: usize) -> Guarded<T> {

@@ -1,14 +1,14 @@
 //! The question of conflict over words: against the second implementation, and against the engine's own evaluation and settled question.
 
 use against::cases::{Tally, cases};
-use against::entries::{Answer, Engine, Entries, NO, Second, YES};
+use against::compare::conflict as answer;
+use against::entries::{Engine, Entries, NO, YES};
 use against::guard::Guarded;
-use against::shrink::{smaller, smaller_table};
-use against::tables::{self, expect_of_lines, of_length, sound_or_faulty};
+use against::tables::{expect_of_lines, of_length, sound_or_faulty};
 use second::random::{self, Chance};
 use second::refusal::Refusal;
 use second::table::{Literal, Rule, encode, negation, numbered};
-use second::tables::{EXAMPLES, MEASURED};
+use second::tables::{EXAMPLES, MEASURED, fact};
 use second::truth::I;
 
 const ANSWERS: [&str; 2] = ["conflict yes", "conflict no"];
@@ -17,30 +17,7 @@ const OF_WORDS: [&str; 4] = ["conflict 4", "conflict 5", "conflict 6", "conflict
 
 const OF_LIMITS: [&str; 2] = ["conflict 1", "conflict 2"];
 
-/// What the engine says in three ways: asked, by a value i of its whole evaluation, and by a fresh record that is not settled.
-fn said(n: u64, words: &[u16]) -> [Answer; 3] {
-    let mut values = vec![9; n.min(512) as usize];
-    let evaluated = Engine.evaluate(n, words, &mut values).map(|_| u64::from(values.contains(&I)));
-    let (record, fresh) = Engine.fresh(n);
-    let settled = fresh.and_then(|_| Engine.settled(&record, words));
-    [Engine.conflict(n, words), evaluated, settled.map(|yes| if yes == YES { NO } else { YES })]
-}
-
-/// The engine says in each way what the second implementation does; if not, the smallest table found is shown. The answer.
-fn answer(n: u64, words: &[u16], tally: &mut Tally) -> Answer {
-    let expected = Second.conflict(n, words);
-    tables::note_question(tally, "conflict", words, &expected);
-    if said(n, words) != [expected; 3] {
-        let differ = |n: u64, words: &[u16]| said(n, words) != [Second.conflict(n, words); 3];
-        let words = smaller_table(words, |words| differ(n, words));
-        let n = smaller(n, |n| differ(n, &words));
-        let (engine, second) = (said(n, &words), Second.conflict(n, &words));
-        panic!("N {n}, words {words:?}: engine {engine:?}, second implementation {second:?}");
-    }
-    expected
-}
-
-/// The same, whatever the answer is.
+/// Both sides say the same, whatever it is.
 fn compare(n: u64, words: &[u16], tally: &mut Tally) {
     let _ = answer(n, words, tally);
 }
@@ -48,10 +25,6 @@ fn compare(n: u64, words: &[u16], tally: &mut Tally) {
 /// The same for rules, with lines 1, 2, 3 ..; whether they are in conflict.
 fn in_conflict(n: u64, rules: &[Rule], tally: &mut Tally) -> bool {
     answer(n, &encode(&numbered(rules)), tally).expect("an accepted table") == YES
-}
-
-fn fact(head: Literal) -> Rule {
-    Rule { head, groups: Vec::new() }
 }
 
 fn rests_on(head: Literal, literal: Literal) -> Rule {

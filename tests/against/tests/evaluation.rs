@@ -1,9 +1,9 @@
 //! Whole evaluation over words: random tables, the measured ones, P1 to P12, and picks until settled.
 
 use against::cases::{Tally, cases};
-use against::entries::{Answer, Engine, Entries, Second};
-use against::shrink::{smaller, smaller_table};
-use against::tables::{self, expect_of_lines};
+use against::compare::evaluation as compare;
+use against::entries::{Engine, Entries};
+use against::tables::expect_of_lines;
 use against::trace::passes_until_settled;
 use second::random::{self, Chance};
 use second::tables::{EXAMPLES, MEASURED};
@@ -11,28 +11,6 @@ use second::tables::{EXAMPLES, MEASURED};
 const REFUSALS: [&str; 8] = [
     "evaluate ok", "evaluate 1", "evaluate 2", "evaluate 3", "evaluate 4", "evaluate 5", "evaluate 6", "evaluate 7",
 ];
-
-fn both(n: u64, words: &[u16], room: &[u8]) -> [(Answer, Vec<u8>); 2] {
-    let (mut ours, mut theirs) = (room.to_vec(), room.to_vec());
-    let answers = [Engine.evaluate(n, words, &mut ours), Second.evaluate(n, words, &mut theirs)];
-    [(answers[0], ours), (answers[1], theirs)]
-}
-
-/// Both sides answer the same and leave the same bytes; if not, the smallest table found is shown.
-fn compare(n: u64, words: &[u16], room: &[u8], tally: &mut Tally) {
-    let [engine, second] = both(n, words, room);
-    tables::note(tally, "evaluate", words, &second.0);
-    if engine != second {
-        let differ = |n: u64, words: &[u16]| {
-            let [engine, second] = both(n, words, room);
-            engine != second
-        };
-        let words = smaller_table(words, |words| differ(n, words));
-        let n = smaller(n, |n| differ(n, &words));
-        let [engine, second] = both(n, &words, room);
-        panic!("N {n}, words {words:?}, room {room:?}:\nengine {engine:?}\nsecond implementation {second:?}");
-    }
-}
 
 #[test]
 fn random_and_damaged_tables() {

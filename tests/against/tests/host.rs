@@ -2,9 +2,6 @@
 
 use second::random::{self, Chance, table_bytes};
 
-/// The places a buffer is lent from: at an even address and at an odd one.
-const BEFORE: [usize; 2] = [16, 13];
-
 /// The bytes of a small table; once in three times with a byte anywhere set to anything or to a code, cut anywhere, or with a lone byte
 /// after it.
 fn small_bytes(chance: &mut Chance) -> (u64, Vec<u8>) {
@@ -23,50 +20,19 @@ fn small_bytes(chance: &mut Chance) -> (u64, Vec<u8>) {
 }
 
 mod evaluate {
-    use super::{BEFORE, small_bytes};
+    use super::small_bytes;
     use against::cases::{Tally, cases};
-    use against::entries::unpacked;
-    use against::guard::Guarded;
+    use against::compare::{host_evaluated as engine, host_evaluation as compare};
+    use against::guard::BEFORE;
     use against::host;
-    use against::shrink::{smaller, without_parts};
-    use against::tables::{self, expect_of_lines};
-    use second::host::{simmerknot_evaluate as second_evaluate, whole_words};
+    use against::tables::expect_of_lines;
+    use second::host::simmerknot_evaluate as second_evaluate;
     use second::random::{self, Chance, table_bytes};
     use second::tables::{EXAMPLES, MEASURED};
 
     const OUTCOMES: [&str; 8] = [
         "evaluate ok", "evaluate 1", "evaluate 2", "evaluate 3", "evaluate 4", "evaluate 5", "evaluate 6", "evaluate 7",
     ];
-
-    /// The engine's packed answer and the value room after it.
-    fn engine(n: u64, table: &[u8], room: &[u8], before: usize) -> (u64, Vec<u8>) {
-        let table = Guarded::new(table, before);
-        let lent = table.clone();
-        let mut values = Guarded::new(room, before);
-        let answer = host::evaluate(n, table.row(), values.row_mut());
-        values.check();
-        assert!(table == lent, "the table was altered");
-        (answer, values.row().to_vec())
-    }
-
-    fn second(n: u64, table: &[u8], room: &[u8]) -> (u64, Vec<u8>) {
-        let mut values = room.to_vec();
-        (second_evaluate(n, table, &mut values), values)
-    }
-
-    /// Both sides answer the same and leave the same bytes; if not, the smallest table found is shown.
-    fn compare(n: u64, table: &[u8], room: &[u8], before: usize, tally: &mut Tally) {
-        let expected = second(n, table, room);
-        tables::note(tally, "evaluate", &whole_words(table).0, &unpacked(expected.0));
-        if engine(n, table, room, before) != expected {
-            let differ = |n: u64, table: &[u8]| engine(n, table, room, before) != second(n, table, room);
-            let table = without_parts(table, |table| differ(n, table));
-            let n = smaller(n, |n| differ(n, &table));
-            let ((ours, left), (theirs, right)) = (engine(n, &table, room, before), second(n, &table, room));
-            let (ours, theirs) = (unpacked(ours), unpacked(theirs));
-            panic!("N {n}, table {table:?}, room {room:?}:\nengine {ours:?} {left:?}\nsecond {theirs:?} {right:?}");
-        }
-    }
 
     #[test]
     fn random_and_damaged_tables() {
@@ -181,46 +147,19 @@ mod evaluate {
 }
 
 mod conflict {
-    use super::{BEFORE, small_bytes};
+    use super::small_bytes;
     use against::cases::{Tally, cases};
-    use against::entries::unpacked;
-    use against::guard::Guarded;
+    use against::compare::host_conflict as compare;
+    use against::guard::BEFORE;
     use against::host;
-    use against::shrink::{smaller, without_parts};
-    use against::tables::{self, expect_of_lines};
-    use second::host::{simmerknot_conflict as second_conflict, whole_words};
+    use against::tables::expect_of_lines;
+    use second::host::simmerknot_conflict as second_conflict;
     use second::random::{self, Chance, table_bytes};
     use second::tables::{EXAMPLES, MEASURED};
-    use second::truth::I;
 
     const OUTCOMES: [&str; 8] = [
         "conflict yes", "conflict no", "conflict 4", "conflict 5", "conflict 6", "conflict 7", "conflict 1", "conflict 2",
     ];
-
-    /// The engine's packed answers: asked, and by a value i of its evaluation in a room of its own.
-    fn engine(n: u64, table: &[u8], before: usize) -> [u64; 2] {
-        let table = Guarded::new(table, before);
-        let lent = table.clone();
-        let asked = host::conflict(n, table.row());
-        assert!(table == lent, "the table was altered");
-        let mut values = vec![9; n.min(512) as usize];
-        let evaluated = host::evaluate(n, table.row(), &mut values);
-        [asked, if evaluated == 0 { u64::from(values.contains(&I)) } else { evaluated }]
-    }
-
-    /// The engine says in both ways what the second implementation does; if not, the smallest table found is shown.
-    fn compare(n: u64, table: &[u8], before: usize, tally: &mut Tally) -> u64 {
-        let expected = second_conflict(n, table);
-        tables::note_question(tally, "conflict", &whole_words(table).0, &unpacked(expected));
-        if engine(n, table, before) != [expected; 2] {
-            let differ = |n: u64, table: &[u8]| engine(n, table, before) != [second_conflict(n, table); 2];
-            let table = without_parts(table, |table| differ(n, table));
-            let n = smaller(n, |n| differ(n, &table));
-            let (ours, theirs) = (engine(n, &table, before).map(unpacked), unpacked(second_conflict(n, &table)));
-            panic!("N {n}, table {table:?}: engine {ours:?}, second {theirs:?}");
-        }
-        expected
-    }
 
     #[test]
     fn random_and_damaged_tables() {
@@ -322,10 +261,9 @@ mod conflict {
 }
 
 mod sheet {
-    use super::BEFORE;
     use against::cases::{Tally, cases};
     use against::entries::unpacked;
-    use against::guard::Guarded;
+    use against::guard::{BEFORE, Guarded};
     use against::host;
     use against::sheets::{self, MANY_LINES, NOT_BY_TWO, ONLY_IN_BODIES, ROOM_FOR_HEADS};
     use against::shrink::without_parts;

@@ -3,9 +3,6 @@
 
 use second::random::{Chance, Claimed, table_bytes};
 
-/// The places a buffer is lent from: at an even address and at an odd one.
-const BEFORE: [usize; 2] = [16, 13];
-
 /// The bytes of a table, once in ten times with a lone byte after them.
 fn any_bytes(chance: &mut Chance, words: &[u16]) -> Vec<u8> {
     let mut table = table_bytes(words);
@@ -30,10 +27,10 @@ fn lent(chance: &mut Chance, claimed: Claimed) -> Lent {
 }
 
 mod check {
-    use super::{BEFORE, Lent, lent};
+    use super::{Lent, lent};
     use against::cases::{Tally, cases};
     use against::entries::unpacked;
-    use against::guard::Guarded;
+    use against::guard::{BEFORE, Guarded};
     use against::host;
     use against::pages::Pages;
     use against::shrink::{smaller, without_parts};
@@ -386,70 +383,15 @@ mod check {
 }
 
 mod write {
-    use super::{BEFORE, any_bytes};
+    use super::any_bytes;
     use against::cases::{Tally, cases};
+    use against::compare::reasons as sheet;
     use against::entries::unpacked;
-    use against::guard::Guarded;
     use against::host;
     use against::pages::Pages;
-    use second::host::{refused_writing, whole_words};
-    use second::random::{self, Chance, evaluated, table_bytes};
-    use second::reasons::check_written;
+    use second::random::{self, Chance, table_bytes};
     use second::refusal::Refusal;
     use second::tables::{EXAMPLES, MEASURED, all_i};
-
-    /// The engine's packed answer and the room after it.
-    fn engine(n: u64, table: &[u8], room: &[u8], before: usize) -> (u64, Vec<u8>) {
-        let table = Guarded::new(table, before);
-        let lent = table.clone();
-        let mut text = Guarded::new(room, before);
-        let answer = host::reasons(n, table.row(), text.row_mut());
-        text.check();
-        assert!(table == lent, "the table was altered");
-        (answer, text.row().to_vec())
-    }
-
-    /// The sheet for a table, or its refusal: asked with no room, with as much as was told, with one byte less and with more. It is
-    /// always the same, both checks accept it with whole evaluation's values, and what is past it stays.
-    fn sheet(chance: &mut Chance, n: u64, table: &[u8], tally: &mut Tally) -> Result<Vec<u8>, Refusal> {
-        let before = chance.of(&BEFORE);
-        let length = chance.index(40);
-        let room = chance.bytes(length);
-        if let Some(refused) = refused_writing(n, table) {
-            tally.answer("write", &unpacked(refused));
-            assert_eq!(engine(n, table, &room, before), (refused, room), "N {n}, table {table:?}");
-            assert_eq!(engine(n, table, &[], before), (refused, Vec::new()), "N {n}, table {table:?}");
-            return Err(unpacked(refused).expect_err("a refusal"));
-        }
-        let length = match unpacked(engine(n, table, &[], before).0) {
-            Ok(length) => {
-                assert_eq!(length, 0, "N {n}, table {table:?}: a sheet in no room");
-                0
-            }
-            Err(Refusal { number, place }) => {
-                assert_eq!(number, 15, "N {n}, table {table:?}");
-                assert!(place > 0 && place <= 18_432, "N {n}, table {table:?}: {place} bytes");
-                place as usize
-            }
-        };
-        let room = chance.bytes(length + 1);
-        let (answer, left) = engine(n, table, &room[..length], before);
-        assert_eq!(answer, length as u64, "N {n}, table {table:?}: the room that was told does not serve");
-        for more in [1, chance.index(300)] {
-            let room = chance.bytes(length + more);
-            let (answer, with_more) = engine(n, table, &room, before);
-            assert_eq!((answer, with_more), (length as u64, [&left, &room[length..]].concat()), "N {n}, table {table:?}");
-        }
-        for fewer in [length.saturating_sub(1), chance.index(length.max(1))] {
-            let expected = if length == 0 { 0 } else { (15 << 32) + length as u64 };
-            assert_eq!(engine(n, table, &room[..fewer], before), (expected, room[..fewer].to_vec()), "N {n}, table {table:?}");
-        }
-        let (words, _) = whole_words(table);
-        assert_eq!(check_written(n, &words, &left), Ok(()), "N {n}, table {table:?}: \"{}\"", left.escape_ascii());
-        assert_eq!(host::check_reasons(n, table, &evaluated(n, &words), &left), 0, "N {n}, table {table:?}");
-        tally.note(if length == 0 { "write nothing" } else { "write ok" });
-        Ok(left)
-    }
 
     const OUTCOMES: [&str; 8] =
         ["write ok", "write nothing", "write 1", "write 2", "write 4", "write 5", "write 6", "write 7"];

@@ -1,4 +1,5 @@
-//! Engines that are wrong on purpose part from the second implementation in random traces, or on random sheets, and these shrink.
+//! Engines that are wrong on purpose part from the second implementation in random traces, on random sheets, or on tables that are awkward
+//! for an index, and these shrink.
 
 use against::cases::Tally;
 use against::entries::{ALREADY_MARKED, Answer, CANNOT_BE_MARKED_NOW, Entries, FACT, MARKED, NO, NO_GROUP, NO_RECORD, Second, YES};
@@ -615,6 +616,254 @@ mod sheets {
             }
             println!("{engine:?}, room {room}: \"{}\"", short.escape_ascii());
             assert!(short.len() <= most, "{engine:?}, room {room}: \"{}\"", short.escape_ascii());
+        }
+    }
+}
+
+mod index {
+    use std::collections::BTreeSet;
+
+    use against::index_tables::KINDS;
+    use against::shrink::smaller_table;
+    use second::model;
+    use second::table::{Literal, Rule, atom_of, encode, numbered, rules_of};
+    use second::truth::{F, I, T, U};
+
+    /// What is wrong about Held and Clean by pending literals, taken from the lowest, with an index.
+    #[derive(Clone, Copy, Debug, PartialEq, Eq)]
+    enum Wrong {
+        LastGroupOfALiteralNotSeen,
+        FirstGroupOfALiteralNotSeen,
+        HeadOneLiteralTooEarly,
+        RepeatedLiteralCountedOnce,
+        EqualGroupsTakenForOne,
+        LastGroupOfARuleMissing,
+        LastGroupOfTheTableMissing,
+        LastFactForgotten,
+        LowestLiteralLost,
+        HighestLiteralLost,
+        HeadBelowThePendingLiteralLost,
+        MarkedLiteralsNotPending,
+        FactOfAMarkedHeadClean,
+        MarkedHeadCleanByAGroup,
+        CountsOfCleanKept,
+        CleanKept,
+        The4000thGroupMissing,
+        The8057thPlaceMissing,
+    }
+
+    /// Each beside the most words of its smallest table.
+    const WRONG: [(Wrong, usize); 16] = [
+        (Wrong::LastGroupOfALiteralNotSeen, 8),
+        (Wrong::FirstGroupOfALiteralNotSeen, 8),
+        (Wrong::HeadOneLiteralTooEarly, 9),
+        (Wrong::RepeatedLiteralCountedOnce, 9),
+        (Wrong::EqualGroupsTakenForOne, 18),
+        (Wrong::LastGroupOfARuleMissing, 8),
+        (Wrong::LastGroupOfTheTableMissing, 8),
+        (Wrong::LastFactForgotten, 3),
+        (Wrong::LowestLiteralLost, 8),
+        (Wrong::HighestLiteralLost, 8),
+        (Wrong::HeadBelowThePendingLiteralLost, 13),
+        (Wrong::MarkedLiteralsNotPending, 16),
+        (Wrong::FactOfAMarkedHeadClean, 11),
+        (Wrong::MarkedHeadCleanByAGroup, 19),
+        (Wrong::CountsOfCleanKept, 18),
+        (Wrong::CleanKept, 11),
+    ];
+
+    /// Noticed by tables alone that have as many groups or places as there can be beside a fact.
+    const WRONG_OF_FULL_TABLES: [Wrong; 2] = [Wrong::The4000thGroupMissing, Wrong::The8057thPlaceMissing];
+
+    /// Groups, each a head and how many literals it wants, and for each literal the groups that it stands in, as often as it does.
+    struct Index {
+        facts: Vec<Literal>,
+        groups: Vec<(Literal, usize)>,
+        of_literal: Vec<Vec<usize>>,
+    }
+
+    impl Index {
+        fn new(wrong: Option<Wrong>, n: usize, rules: &[Rule]) -> Index {
+            let mut index = Index { facts: Vec::new(), groups: Vec::new(), of_literal: vec![Vec::new(); 2 * n] };
+            let mut seen = BTreeSet::new();
+            let mut places = 0;
+            index.facts.extend(rules.iter().filter(|rule| rule.groups.is_empty()).map(|rule| rule.head));
+            for rule in rules {
+                for (i, group) in rule.groups.iter().enumerate() {
+                    let number = index.groups.len();
+                    index.groups.push((rule.head, group.len()));
+                    let missing = match wrong {
+                        Some(Wrong::EqualGroupsTakenForOne) => !seen.insert(group),
+                        Some(Wrong::LastGroupOfARuleMissing) => i + 1 == rule.groups.len(),
+                        Some(Wrong::The4000thGroupMissing) => number == 3999,
+                        _ => false,
+                    };
+                    for &literal in group.iter().filter(|_| !missing) {
+                        let of_literal = &mut index.of_literal[literal];
+                        places += 1;
+                        match wrong {
+                            Some(Wrong::RepeatedLiteralCountedOnce) if of_literal.last() == Some(&number) => {}
+                            Some(Wrong::The8057thPlaceMissing) if places == 8057 => {}
+                            _ => of_literal.push(number),
+                        }
+                    }
+                }
+            }
+            index.lose(wrong);
+            index
+        }
+
+        fn lose(&mut self, wrong: Option<Wrong>) {
+            let last = self.groups.len().saturating_sub(1);
+            match wrong {
+                Some(Wrong::LastFactForgotten) => self.facts.truncate(self.facts.len().saturating_sub(1)),
+                Some(Wrong::LowestLiteralLost) => self.of_literal.iter_mut().take(1).for_each(Vec::clear),
+                Some(Wrong::HighestLiteralLost) => self.of_literal.iter_mut().rev().take(1).for_each(Vec::clear),
+                Some(Wrong::LastGroupOfTheTableMissing) => self.each_without(|_, group| group == last),
+                Some(Wrong::FirstGroupOfALiteralNotSeen) => self.each_without(|groups, group| groups.first() == Some(&group)),
+                Some(Wrong::LastGroupOfALiteralNotSeen) => self.each_without(|groups, group| groups.last() == Some(&group)),
+                _ => {}
+            }
+        }
+
+        /// For each literal, of its groups those that are not lost.
+        fn each_without(&mut self, lost: impl Fn(&[usize], usize) -> bool) {
+            for groups in &mut self.of_literal {
+                *groups = groups.iter().copied().filter(|&group| !lost(groups, group)).collect();
+            }
+        }
+
+        fn wanted(&self) -> Vec<usize> {
+            self.groups.iter().map(|&(_, wanted)| wanted).collect()
+        }
+
+        /// Adds all that follows from the pending literals by heads that are let in.
+        fn follow(
+            &self,
+            wrong: Option<Wrong>,
+            set: &mut [bool],
+            mut pending: BTreeSet<Literal>,
+            wanted: &mut [usize],
+            let_in: impl Fn(Literal) -> bool,
+        ) {
+            let enough = (wrong == Some(Wrong::HeadOneLiteralTooEarly)) as usize;
+            while let Some(literal) = pending.pop_first() {
+                for &group in &self.of_literal[literal] {
+                    let head = self.groups[group].0;
+                    wanted[group] = wanted[group].saturating_sub(1);
+                    if wanted[group] <= enough && !set[head] && let_in(head) {
+                        set[head] = true;
+                        if wrong != Some(Wrong::HeadBelowThePendingLiteralLost) || head > literal {
+                            pending.insert(head);
+                        }
+                    }
+                }
+            }
+        }
+
+        fn held(&self, wrong: Option<Wrong>, marked: &[bool]) -> Vec<bool> {
+            let by_mark: Vec<Literal> = (0..2 * marked.len()).filter(|&literal| marked[atom_of(literal)]).collect();
+            let mut set = vec![false; 2 * marked.len()];
+            by_mark.iter().chain(&self.facts).for_each(|&literal| set[literal] = true);
+            let mut pending: BTreeSet<Literal> = self.facts.iter().copied().collect();
+            if wrong != Some(Wrong::MarkedLiteralsNotPending) {
+                pending.extend(by_mark);
+            }
+            self.follow(wrong, &mut set, pending, &mut self.wanted(), |_| true);
+            set
+        }
+
+        /// Clean; the counts and the set of the round before are lent.
+        fn clean(&self, wrong: Option<Wrong>, marked: &[bool], wanted: &mut Vec<usize>, before: &mut Vec<bool>) -> Vec<bool> {
+            let unmarked = |literal: Literal| !marked[atom_of(literal)];
+            let taken = |literal: &Literal| wrong == Some(Wrong::FactOfAMarkedHeadClean) || unmarked(*literal);
+            let pending: BTreeSet<Literal> = self.facts.iter().copied().filter(taken).collect();
+            let mut set = vec![false; 2 * marked.len()];
+            pending.iter().for_each(|&literal| set[literal] = true);
+            if wrong != Some(Wrong::CountsOfCleanKept) {
+                *wanted = self.wanted();
+            }
+            self.follow(wrong, &mut set, pending, wanted, |head| wrong == Some(Wrong::MarkedHeadCleanByAGroup) || unmarked(head));
+            if wrong == Some(Wrong::CleanKept) {
+                (0..set.len()).for_each(|literal| set[literal] |= before[literal]);
+                before.clone_from(&set);
+            }
+            set
+        }
+    }
+
+    /// Whether there is a conflict, the atoms that can be marked in each round, and the values.
+    type Said = (bool, Vec<Vec<usize>>, Vec<u8>);
+
+    fn said(n: usize, held: impl Fn(&[bool]) -> Vec<bool>, mut clean: impl FnMut(&[bool]) -> Vec<bool>) -> Said {
+        let mut marked = vec![false; n];
+        let mut rounds = Vec::new();
+        let at_first = held(&marked);
+        let conflict = (0..n).any(|atom| at_first[2 * atom] && at_first[2 * atom + 1]);
+        loop {
+            let (held, clean) = (held(&marked), clean(&marked));
+            let doubtful = |literal: Literal| held[literal] && !clean[literal];
+            let both = |atom: usize| held[2 * atom] && held[2 * atom + 1];
+            let can = |atom: usize| !marked[atom] && (both(atom) || doubtful(2 * atom) || doubtful(2 * atom + 1));
+            let next: Vec<usize> = (0..n).filter(|&atom| can(atom)).collect();
+            if next.is_empty() {
+                let value = |atom: usize| match (marked[atom], held[2 * atom], held[2 * atom + 1]) {
+                    (true, _, _) => I,
+                    (_, true, _) => T,
+                    (_, _, true) => F,
+                    _ => U,
+                };
+                return (conflict, rounds, (0..n).map(value).collect());
+            }
+            next.iter().for_each(|&atom| marked[atom] = true);
+            rounds.push(next);
+        }
+    }
+
+    fn right(n: usize, rules: &[Rule]) -> Said {
+        said(n, |marked| model::held(rules, marked), |marked| model::clean(rules, marked))
+    }
+
+    fn by_index(wrong: Option<Wrong>, n: usize, rules: &[Rule]) -> Said {
+        let index = Index::new(wrong, n, rules);
+        let (mut wanted, mut before) = (index.wanted(), vec![false; 2 * n]);
+        said(n, |marked| index.held(wrong, marked), |marked| index.clean(wrong, marked, &mut wanted, &mut before))
+    }
+
+    /// All tables of all kinds, with what is said of them, the smallest first.
+    fn all_tables() -> Vec<(&'static str, usize, Vec<Rule>, Said)> {
+        let mut tables = Vec::new();
+        for kind in &KINDS {
+            for (n, rules) in (kind.tables)() {
+                let said = right(n, &rules);
+                tables.push((kind.name, n, rules, said));
+            }
+        }
+        tables.sort_by_key(|(_, _, rules, _)| second::tables::words(rules));
+        tables
+    }
+
+    #[test]
+    fn each_is_noticed_by_the_tables_and_its_table_shrinks() {
+        let tables = all_tables();
+        let smallest = |wrong: Wrong| tables.iter().find(|(_, n, rules, right)| by_index(Some(wrong), *n, rules) != *right);
+        for (wrong, most) in WRONG {
+            let (kind, n, rules, _) = smallest(wrong).unwrap_or_else(|| panic!("{wrong:?} was not noticed"));
+            let parts = |words: &[u16]| rules_of(*n as u64, words).is_ok_and(|rules| by_index(Some(wrong), *n, &rules) != right(*n, &rules));
+            let short = smaller_table(&encode(&numbered(rules)), parts);
+            println!("{wrong:?}, found by '{kind}', N {n}: {short:?}");
+            assert!(short.len() <= most, "{wrong:?}, N {n}: {short:?}");
+        }
+        for wrong in WRONG_OF_FULL_TABLES {
+            let (kind, _, rules, _) = smallest(wrong).unwrap_or_else(|| panic!("{wrong:?} was not noticed"));
+            println!("{wrong:?}, found by '{kind}', {} words", second::tables::words(rules));
+        }
+    }
+
+    #[test]
+    fn an_index_with_nothing_wrong_is_not_noticed() {
+        for (kind, n, rules, right) in all_tables() {
+            assert!(by_index(None, n, &rules) == right, "{kind}, N {n}: {rules:?}");
         }
     }
 }

@@ -1,5 +1,5 @@
-//! Evaluation's speed beside the second implementation and the yardsticks, plain rereading by the same method, and counters; then
-//! the question of conflict's beside evaluation (`conflict`), the writer's and the check's of reason sheets (`reasons`), that of calls
+//! Evaluation's speed beside the second implementation and the yardsticks, plain rereading by the same method, and counters; how the
+//! cost grows with the words (`growth`); then the question of conflict's beside evaluation (`conflict`), the writer's and the check's of reason sheets (`reasons`), that of calls
 //! that check a mark record (`marks`), and reading's (`reading`).
 //!
 //! From tests/, after `rt staticlib probe` and `rt staticlib simmerknot`: `cargo run --release -p bench`. Both sides are
@@ -8,6 +8,7 @@
 //! microseconds, ratios those of the medians.
 
 mod conflict;
+mod growth;
 mod marks;
 mod reading;
 mod reasons;
@@ -69,6 +70,7 @@ fn main() {
             engine / counters
         );
     }
+    growth::print();
     conflict::print();
     reasons::print();
     marks::print();

@@ -258,6 +258,11 @@ fn each_group<'a>(words: &'a [u16], mut call: impl FnMut(u16, Option<&'a [u16]>)
 
 /// Index by group with counters, Held kept across rounds.
 pub fn counters(n: u64, words: &[u16], values: &mut [u8]) -> Result<(), Refusal> {
+    counters_in_rounds(n, words, values).map(|_| ())
+}
+
+/// The same; how many rounds there were, the last of which marks nothing.
+pub fn counters_in_rounds(n: u64, words: &[u16], values: &mut [u8]) -> Result<usize, Refusal> {
     check(n, words, values.len())?;
     let index = Index::new(n, words);
     let none: Bits = [0; 16];
@@ -269,7 +274,9 @@ pub fn counters(n: u64, words: &[u16], values: &mut [u8]) -> Result<(), Refusal>
     for &head in &index.facts {
         add(&mut held, head);
     }
+    let mut rounds = 0;
     loop {
+        rounds += 1;
         index.derive(&mut held_missing, &mut pending, &none, &mut held);
         let mut shut_out = marked;
         for w in 0..16 {
@@ -287,7 +294,7 @@ pub fn counters(n: u64, words: &[u16], values: &mut [u8]) -> Result<(), Refusal>
         let next = markable(&held, &clean, &marked);
         if next == none {
             write_values(n, &held, &marked, values);
-            return Ok(());
+            return Ok(rounds);
         }
         for w in 0..16 {
             marked[w] |= next[w];

@@ -201,6 +201,26 @@ pub const MEASURED: [Measured; 11] = [
     Measured { name: "worst_w7", table: worst_w7 },
 ];
 
+/// A kind of table to see on how the cost grows with the words: in as many as are asked for, or as near below as it fits.
+pub struct Growing {
+    pub name: &'static str,
+    pub table: fn(usize) -> (u64, Vec<u16>),
+}
+
+/// Nothing is marked: one Held answers the question of conflict.
+pub const GROWING_WITHOUT_MARKS: [Growing; 2] = [
+    Growing { name: "max_t", table: max_t_of },
+    Growing { name: "worst_reread, its chain alone", table: worst_reread_chain_of },
+];
+
+/// Each mark needs the one before it: as many rounds as marks, and a last one.
+pub const GROWING_WITH_MARKS: [Growing; 4] = [
+    Growing { name: "worst_fresh", table: worst_fresh_of },
+    Growing { name: "worst_reread", table: worst_reread_of },
+    Growing { name: "marks_seq_max", table: marks_seq_max_of },
+    Growing { name: "worst_w7", table: worst_w7_of },
+];
+
 const N: usize = 512;
 
 fn positive(atom: usize) -> Literal {
@@ -211,16 +231,16 @@ fn negative(atom: usize) -> Literal {
     2 * atom + 1
 }
 
-fn fact(head: Literal) -> Rule {
+pub fn fact(head: Literal) -> Rule {
     Rule { head, groups: Vec::new() }
 }
 
-fn rule(head: Literal, groups: Vec<Vec<Literal>>) -> Rule {
+pub fn rule(head: Literal, groups: Vec<Vec<Literal>>) -> Rule {
     Rule { head, groups }
 }
 
 /// How many words rules take.
-fn words(rules: &[Rule]) -> usize {
+pub fn words(rules: &[Rule]) -> usize {
     encode(&numbered(rules)).len()
 }
 
@@ -229,7 +249,7 @@ fn finished(rules: Vec<Rule>) -> (u64, Vec<u16>) {
 }
 
 /// `count` blocks marked one after another: x0, -x0; b_i: x_i; x_{i+1}; -x_{i+1}: -b_i. Atom x_i is first + 2i, b_i the next.
-fn marks_one_after_another(first: usize, count: usize) -> Vec<Rule> {
+pub fn marks_one_after_another(first: usize, count: usize) -> Vec<Rule> {
     let x = |i: usize| first + 2 * i;
     let b = |i: usize| first + 2 * i + 1;
     let mut rules = vec![fact(positive(x(0))), fact(negative(x(0)))];
@@ -269,9 +289,9 @@ fn wide_chain_back_to_front(first: usize, length: usize, room: usize) -> Vec<Rul
     rules
 }
 
-/// Fills the table up to 8,192 words by records that never fire: one group each, the literal `never` last in it.
-fn pad(rules: &mut Vec<Rule>, heads: &[Literal], filler: &[Literal], never: Literal) {
-    let mut room = MOST_WORDS - words(rules);
+/// Fills the table up to `full` words by records that never fire: one group each, the literal `never` last in it.
+pub fn pad(rules: &mut Vec<Rule>, full: usize, heads: &[Literal], filler: &[Literal], never: Literal) {
+    let mut room = full - words(rules);
     let mut heads = heads.iter();
     let mut filler = filler.iter().cycle();
     while room > 0 {
@@ -296,7 +316,17 @@ pub fn chain512() -> (u64, Vec<u16>) {
 
 /// 8,192 words, positive heads, wide bodies, back to front, all t.
 pub fn max_t() -> (u64, Vec<u16>) {
-    finished(wide_chain_back_to_front(0, N, MOST_WORDS))
+    max_t_of(MOST_WORDS)
+}
+
+/// The same in fewer words, with as many of its atoms fewer; so are those below that are `_of` words.
+fn max_t_of(full: usize) -> (u64, Vec<u16>) {
+    finished(wide_chain_back_to_front(0, share(N, full), full))
+}
+
+/// What remains of so many atoms, blocks or groups in a table of `full` words in place of 8,192.
+fn share(count: usize, full: usize) -> usize {
+    count * full / MOST_WORDS
 }
 
 /// 8,192 words, 1,024 heads, random groups, 400 facts.
@@ -341,10 +371,15 @@ pub fn marks_seq() -> (u64, Vec<u16>) {
 
 /// The same with 255 blocks, as something must stay unknown for padding that never fires: 510 marks, 8,192 words.
 pub fn marks_seq_max() -> (u64, Vec<u16>) {
-    let mut rules = marks_one_after_another(0, 255);
-    let heads: Vec<Literal> = (0..255).map(|i| negative(2 * i + 1)).collect();
-    let filler: Vec<Literal> = (0..2 * 510).collect();
-    pad(&mut rules, &heads, &filler, positive(511));
+    marks_seq_max_of(MOST_WORDS)
+}
+
+fn marks_seq_max_of(full: usize) -> (u64, Vec<u16>) {
+    let blocks = share(256, full) - 1;
+    let mut rules = marks_one_after_another(0, blocks);
+    let heads: Vec<Literal> = (0..blocks).map(|i| negative(2 * i + 1)).collect();
+    let filler: Vec<Literal> = (0..4 * blocks).collect();
+    pad(&mut rules, full, &heads, &filler, positive(511));
     finished(rules)
 }
 
@@ -375,11 +410,26 @@ pub fn prop_trap() -> (u64, Vec<u16>) {
 
 /// A 256-long chain back to front beside 256 marks one after another, 8,192 words.
 pub fn worst_reread() -> (u64, Vec<u16>) {
-    let mut rules = chain_back_to_front(256, 256);
-    rules.extend(marks_one_after_another(0, 128));
-    let heads: Vec<Literal> = (256..512).map(negative).collect();
-    let filler: Vec<Literal> = (256..512).map(positive).collect();
-    pad(&mut rules, &heads, &filler, negative(256));
+    worst_reread_of(MOST_WORDS)
+}
+
+fn worst_reread_of(full: usize) -> (u64, Vec<u16>) {
+    chain_among_padding(full, marks_one_after_another(0, share(128, full)))
+}
+
+/// Its chain alone, padded to as many words: nothing is marked.
+fn worst_reread_chain_of(full: usize) -> (u64, Vec<u16>) {
+    chain_among_padding(full, Vec::new())
+}
+
+/// A chain back to front over the atoms from 256 on, then these rules, then records of the chain's literals that never fire.
+fn chain_among_padding(full: usize, others: Vec<Rule>) -> (u64, Vec<u16>) {
+    let atoms = 256..256 + share(256, full);
+    let mut rules = chain_back_to_front(256, atoms.len());
+    rules.extend(others);
+    let heads: Vec<Literal> = atoms.clone().map(negative).collect();
+    let filler: Vec<Literal> = atoms.map(positive).collect();
+    pad(&mut rules, full, &heads, &filler, negative(256));
     finished(rules)
 }
 
@@ -400,16 +450,24 @@ pub fn worst_src() -> (u64, Vec<u16>) {
 
 /// 384 marks one after another beside 128 atoms with wide bodies that stay t, 8,192 words.
 pub fn worst_fresh() -> (u64, Vec<u16>) {
-    let mut rules = marks_one_after_another(0, 192);
-    let room = MOST_WORDS - words(&rules);
-    rules.extend(wide_chain_back_to_front(384, 128, room));
+    worst_fresh_of(MOST_WORDS)
+}
+
+fn worst_fresh_of(full: usize) -> (u64, Vec<u16>) {
+    let mut rules = marks_one_after_another(0, share(192, full));
+    let room = full - words(&rules);
+    rules.extend(wide_chain_back_to_front(384, share(128, full), room));
     finished(rules)
 }
 
 /// 256 marks one after another; 255 facts, all in one record of 64 groups of 64 literals that never fires.
 pub fn worst_w7() -> (u64, Vec<u16>) {
-    let never = 511;
-    let mut rules = marks_one_after_another(0, 128);
+    worst_w7_of(MOST_WORDS)
+}
+
+fn worst_w7_of(full: usize) -> (u64, Vec<u16>) {
+    let never = 255 + share(256, full);
+    let mut rules = marks_one_after_another(0, share(128, full));
     rules.extend((256..never).map(|atom| fact(positive(atom))));
     let mut facts = (256..never).map(positive).cycle();
     let mut group = || {
@@ -417,7 +475,7 @@ pub fn worst_w7() -> (u64, Vec<u16>) {
         group.push(positive(never));
         group
     };
-    let groups = (0..MOST_GROUPS).map(|_| group()).collect();
+    let groups = (0..share(MOST_GROUPS, full)).map(|_| group()).collect();
     rules.push(rule(negation(positive(never)), groups));
     finished(rules)
 }

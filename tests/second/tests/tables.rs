@@ -1,8 +1,8 @@
 //! The tables to measure on are what their names say.
 
-use second::model::evaluate;
+use second::model::{evaluate, markable};
 use second::table::{check, parse, rules_of};
-use second::tables::{self, MEASURED};
+use second::tables::{self, GROWING_WITH_MARKS, GROWING_WITHOUT_MARKS, MEASURED};
 use second::truth::{I, T, U};
 
 fn values(table: fn() -> (u64, Vec<u16>)) -> Vec<u8> {
@@ -70,6 +70,32 @@ fn marks_need_one_another() {
     for round in 0..512 {
         assert_eq!(second::model::markable(&rules, &marked), [round]);
         marked[round] = true;
+    }
+}
+
+#[test]
+fn kinds_of_growing_tables_have_the_words_asked_for_and_one_mark_a_round() {
+    for full in [1024, 2048, 4096, 8192] {
+        for kind in GROWING_WITHOUT_MARKS.iter().chain(&GROWING_WITH_MARKS) {
+            let (n, words) = (kind.table)(full);
+            let least = if kind.name == "worst_w7" { full * 4 / 5 } else { full };
+            assert_eq!(check(n, &words), Ok(()), "{} of {full}", kind.name);
+            assert!((least..=full).contains(&words.len()), "{} of {full}: {}", kind.name, words.len());
+        }
+    }
+    for kind in GROWING_WITH_MARKS {
+        let (n, words) = (kind.table)(1024);
+        let rules = rules_of(n, &words).unwrap();
+        let mut marked = vec![false; 512];
+        while let [atom, others @ ..] = &markable(&rules, &marked)[..] {
+            assert_eq!(others, [], "{}", kind.name);
+            marked[*atom] = true;
+        }
+        assert!(marked.iter().filter(|&&mark| mark).count() >= 32, "{}", kind.name);
+    }
+    for kind in GROWING_WITHOUT_MARKS {
+        let (n, words) = (kind.table)(1024);
+        assert_eq!(markable(&rules_of(n, &words).unwrap(), &[false; 512]), [], "{}", kind.name);
     }
 }
 
