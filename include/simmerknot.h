@@ -30,7 +30,7 @@
  * - A pointer and the length after it name one lent buffer. Where the length is 0 any pointer will do, NULL too.
  * - No buffer that is written may overlap another lent buffer.
  * - A buffer that is written is never read, so it may be uninitialised memory.
- * - Nothing outside the lent buffers is read or written, but less than 24 KiB of stack, or 40 KiB in simmerknot_reasons and
+ * - Nothing outside the lent buffers is read or written, but less than 80 KiB of stack, or 112 KiB in simmerknot_reasons and 40 KiB in
  *   simmerknot_check_reasons (measured, tests/stack.c). No memory is kept, taken or given back, so calls from several threads do not
  *   meet unless they lend the same buffer.
  */
