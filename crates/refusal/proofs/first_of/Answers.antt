@@ -2,4 +2,4 @@ use borrow.Author.Rules.{rules}
 use Rattle.refusal.proofs.first_of.Goals as goal
 
 pub returns-in-Refused : goal.returns-in-Refused
-returns-in-Refused c = simp c.a-1.given.1
+returns-in-Refused c = simp c.in-Refused.is
