@@ -55,7 +55,7 @@ module _ (R : List Rule) where
   -- what passes make is a marking
   pub pass_marking : {n : ℕ} {A B : Marks} {l : List ℕ} → Marking R n A → Pass R A l B → (m : ℕ) × Marking R m B
   pass_marking {n} k end = (n, k)
-  pass_marking k (marks {a = a} c p) = pass_marking (one_more a k c) p
+  pass_marking {n = n} k (marks {a = a} c p) = pass_marking {n = suc n} (one_more a k c) p
   pass_marking k (leaves c p) = pass_marking k p
 
   module _ (N : ℕ) (below : HeadsBelow N R) where
