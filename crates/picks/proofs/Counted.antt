@@ -29,7 +29,7 @@ pub fresh_counted : (N : ℕ) → Counted (no_marks_for N)
 fresh_counted N = record { eight = refl; true_count = none_counted N }
 
 -- one more counted exactly where the answer is `marked`; else the record is as it was
-pub answer_tells_count : {r r' : MarkRecord} {t : List ℕ} {a : ℕ} {answer : PickAnswer} → PickAllows r t a answer r'
+pub answer_tells_count : {r : MarkRecord} {t : List ℕ} {a : ℕ} {r' : MarkRecord} {answer : PickAnswer} → PickAllows r t a answer r'
     → ((answer ≡ PickAnswer.Marked) × (r'.count ≡ r.count + 1)) ⊎ ((answer ≡ PickAnswer.Marked → ⊥) × (r' ≡ r))
 answer_tells_count (PickAllows.refused e) = inr ((λ p. let z : ◌≡◌ {A = ℕ} 0 1 = cc in absurd (omega arith)), refl)
 answer_tells_count (PickAllows.already_marked e m) = inr ((λ p. let z : ◌≡◌ {A = ℕ} 0 1 = cc in absurd (omega arith)), refl)
@@ -37,7 +37,7 @@ answer_tells_count (PickAllows.marked e c) = inl (refl, refl)
 answer_tells_count (PickAllows.cannot_be_marked_now e u n) = inr ((λ p. let z : ◌≡◌ {A = ℕ} 0 1 = cc in absurd (omega arith)), refl)
 
 -- a count that was true before a pick is true after it
-pub pick_counted : {r r' : MarkRecord} {t : List ℕ} {a : ℕ} {answer : PickAnswer} → Counted r → PickAllows r t a answer r' → Counted r'
+pub pick_counted : {r : MarkRecord} {t : List ℕ} {a : ℕ} {r' : MarkRecord} {answer : PickAnswer} → Counted r → PickAllows r t a answer r' → Counted r'
 pick_counted c (PickAllows.refused e) = c
 pick_counted c (PickAllows.already_marked e m) = c
 pick_counted c (PickAllows.cannot_be_marked_now e u n) = c
@@ -50,7 +50,7 @@ pick_counted {r} {t = t} {a = a} c (PickAllows.marked e m) =
       true_count = ap (λ (x : ℕ). x + 1) c.true_count ∙ sym (one_more_counted r c.eight a (omega arith) m.unmarked);
     }
 
-pub picks_counted : {r r' : MarkRecord} {t l : List ℕ} → Counted r → Picks t r l r' → Counted r'
+pub picks_counted : {t : List ℕ} {r r' : MarkRecord} {l : List ℕ} → Counted r → Picks t r l r' → Counted r'
 picks_counted c no_picks = c
 picks_counted c (then_picks p ps) = picks_counted (pick_counted c p) ps
 

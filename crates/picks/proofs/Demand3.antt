@@ -38,7 +38,7 @@ use Rattle.picks.proofs.Counted.{all_counted_settled}
 use Rattle.picks.proofs.Faultless.{settled_not_refused, only_before_settled, reports, counts}
 
 -- a pick touches no other atom's mark, and not N
-pub only_its_own_atom : {r r' : MarkRecord} {t : List ℕ} {a : ℕ} {answer : PickAnswer}
+pub only_its_own_atom : {r : MarkRecord} {t : List ℕ} {a : ℕ} {r' : MarkRecord} {answer : PickAnswer}
     → PickAllows r t a answer r' → (r'.n ≡ r.n) × ((b : ℕ) → b ≢ a → marks_of r' b ≡ marks_of r b)
 only_its_own_atom (PickAllows.refused e) = (refl, λ b n. refl)
 only_its_own_atom (PickAllows.already_marked e m) = (refl, λ b n. refl)
@@ -46,7 +46,7 @@ only_its_own_atom {r} {a = a} (PickAllows.marked e c) = (refl, λ b n. member_pu
 only_its_own_atom (PickAllows.cannot_be_marked_now e u n) = (refl, λ b n'. refl)
 
 -- a pick answers `marked` exactly when its atom can be marked, if it is not refused there
-marks_exactly_when_it_may : {r r' : MarkRecord} {t : List ℕ} {a : ℕ} {answer : PickAnswer} → PickAllows r t a answer r'
+marks_exactly_when_it_may : {r : MarkRecord} {t : List ℕ} {a : ℕ} {r' : MarkRecord} {answer : PickAnswer} → PickAllows r t a answer r'
     → (CanBeMarked (rules_of t) (marks_of r) a → pick_fault r t a ≡ Accepted) → (answer ≡ PickAnswer.Marked) ↔ CanBeMarked (rules_of t) (marks_of r) a
 marks_exactly_when_it_may (PickAllows.refused {f} e) h =
     ((λ p. let z : ◌≡◌ {A = ℕ} 0 1 = cc in absurd (omega arith)), λ c. absurd (refused≢accepted f (sym e ∙ h c)))

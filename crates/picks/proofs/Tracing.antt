@@ -60,7 +60,7 @@ module _ (N : ℕ) (t : List ℕ) (accepted : AcceptedTable N t) where
       rw (record_for_good r g, g.same_n, accepted, lt-ltb a N lt)
 
   -- one pick by the promise is one step of a pass
-  step : {r r' : MarkRecord} {a : ℕ} {answer : PickAnswer} → RecordFor N r → PickAllows r t a answer r'
+  step : {r : MarkRecord} {a : ℕ} {r' : MarkRecord} {answer : PickAnswer} → RecordFor N r → PickAllows r t a answer r'
       → RecordFor N r' × ((rest : List ℕ) (B : Marks) → Pass (rules_of t) (marks_of r') rest B → Pass (rules_of t) (marks_of r) (a ∷ rest) B)
   step {r} {a = a} g (PickAllows.refused {f} e) = (
     g,

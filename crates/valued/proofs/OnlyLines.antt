@@ -28,6 +28,7 @@ same_words (suc n) (q ∷ Q) (p ∷ P) e =
 
 module _ (I : Interpretation) where
   same_first : (Q P : List TableRecord) {n : ℕ} → rules_in Q ≡ rules_in P → FirstNot (Satisfied I) Q n → FirstNot (Satisfied I) P n
+  same_first [] P {n = n} e f = elim f [ ]
   same_first (q ∷ Q) [] e f = absurd (cons≢nil e)
   same_first (q ∷ Q) (p ∷ P) e (this_one f) = this_one (λ m. f (subst (λ (ρ : Rule). Model (ρ ∷ []) I) (sym (head-eq_of_cons-eq e)) m))
   same_first (q ∷ Q) (p ∷ P) e (later_one h f) =

@@ -89,7 +89,7 @@ same_walk N M seen other due p [] [] same e e' = refl
 same_walk N M seen other due p [] (w ∷ u) same e e' = absurd same
 same_walk N M seen other due p (v ∷ t) [] same e e' = absurd same
 same_walk N M seen other Head p (v ∷ t) (w ∷ u) same e e' =
-    same_word N M seen other Head p v w t u same.0 (same_walk N M _ _ Line (suc p) t u same.1) e e'
+    same_word N M seen other Head p v w t u same.0 (same_walk N M (seen_after Head seen v) (seen_after Head other v) Line (suc p) t u same.1) e e'
 same_walk N M seen other Line p (v ∷ t) (w ∷ u) same e e' =
     let a = or_else_accepted (fault N seen Line p v) (walk N seen Count (suc p) t) e in
     let b = or_else_accepted (fault N seen Line p w) (walk N seen Count (suc p) u) e' in
