@@ -6,7 +6,7 @@ ghost use Rattle.bits.specs.Sets.{changed, member, put_in};
 ghost use Rattle.bits.specs.Rows.{row_without, lowest_from, lowest_below};
 
 // A member that was looked for.
-#[derive(Drop)]
+#[derive(Clone, Copy)]
 pub enum Found {
     At(usize),
     Nothing,

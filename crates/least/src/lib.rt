@@ -7,14 +7,14 @@ ghost use Rattle.words.specs.Layout.{body_at, take_groups};
 ghost use Rattle.words.specs.RecordAt.{groups_in, body_from, rule_at, WholeGroups};
 
 // Which group of a body is wholly in a set: the number of the lowest, counted from 1, 0 for a fact, or none.
-#[derive(Drop)]
+#[derive(Clone, Copy)]
 pub enum WhichGroup {
     Number(usize),
     None,
 }
 
 // Which group of a body, and where the next record begins.
-#[derive(Drop)]
+#[derive(Clone, Copy)]
 pub struct Body {
     pub which: WhichGroup,
     pub next: usize,

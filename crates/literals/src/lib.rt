@@ -12,14 +12,14 @@ use reader::{Role, SheetLiteral};
 use refusal::{Checked, Refusal};
 
 // What taking a literal answers: the counts with it, or its fault.
-#[derive(Drop)]
+#[derive(Clone, Copy)]
 pub enum Taken {
     On(Counts),
     Off(Refusal),
 }
 
 // The names and words so far, the line and the place of the last record, and the place of its last group.
-#[derive(Drop)]
+#[derive(Clone, Copy)]
 pub struct Counts {
     pub atoms: usize,
     pub words: usize,

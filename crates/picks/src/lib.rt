@@ -5,7 +5,7 @@ ghost use Rattle.picks.specs.Entries.{PickAllows, SettledAllows, ReportAllows};
 use records::MarkRecord;
 use refusal::{Checked, Decided, Refusal};
 
-#[derive(Drop)]
+#[derive(Clone, Copy)]
 pub enum PickAnswer {
     Marked,
     AlreadyMarked,

@@ -12,7 +12,7 @@ ghost use Rattle.ranks.specs.Counted.{Counting, Counted};
 use least::WhichGroup;
 
 // What a record adds: so many lines, 0, 1 or 2, by the group of this number.
-#[derive(Drop)]
+#[derive(Clone, Copy)]
 pub struct Choice {
     pub many: usize,
     pub group: usize,

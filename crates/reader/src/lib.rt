@@ -6,7 +6,7 @@ ghost use Rattle.reader.specs.Readings.{ended_name, name_at, literal_at, line_at
 use refusal::Refusal;
 
 // Where a literal stands: at the start of a line, or in a group.
-#[derive(Drop)]
+#[derive(Clone, Copy)]
 pub enum Role {
     Head,
     First,
@@ -14,7 +14,7 @@ pub enum Role {
 }
 
 // A literal of a sheet: its sign, where its name starts (past the "-"), the name's length, and its role.
-#[derive(Drop)]
+#[derive(Clone, Copy)]
 pub struct SheetLiteral {
     pub negated: bool,
     pub start: usize,
@@ -22,7 +22,7 @@ pub struct SheetLiteral {
     pub role: Role,
 }
 
-#[derive(Drop)]
+#[derive(Clone, Copy)]
 pub enum Reading {
     End,
     Refused(Refusal),
@@ -30,7 +30,7 @@ pub enum Reading {
 }
 
 // A reading, and the place that comes after it.
-#[derive(Drop)]
+#[derive(Clone, Copy)]
 pub struct Next {
     pub reading: Reading,
     pub place: usize,
@@ -261,7 +261,7 @@ impl<'a> Reader<'a> {
 }
 
 // What a reader at a place sees, what it yields, and where it then stands.
-#[derive(Drop)]
+#[derive(Clone, Copy)]
 pub struct Stepped {
     pub seen: Reading,
     pub reading: Reading,

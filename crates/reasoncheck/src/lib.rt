@@ -38,7 +38,7 @@ fn take_line(numbers: &[u16], lines: &mut [u16], l: usize, k: usize)
 }
 
 // Whether a literal that wants a line has its own, and which line comes then.
-#[derive(Drop)]
+#[derive(Clone, Copy)]
 pub struct Matched {
     pub fits: bool,
     pub next: usize,

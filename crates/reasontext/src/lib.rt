@@ -8,7 +8,7 @@ ghost use Rattle.reasontext.specs.Reading.{separator, after_field, with_digit, n
 use refusal::Checked;
 
 // Where reading stands: which number of its line comes, whether it has begun, its value so far, and how many numbers are whole.
-#[derive(Drop)]
+#[derive(Clone, Copy)]
 pub struct State {
     pub field: usize,
     pub begun: bool,
@@ -135,7 +135,7 @@ fn end_fault(s: State, at: usize) -> Checked
 }
 
 // What reading found: a fault, and how many numbers are whole.
-#[derive(Drop)]
+#[derive(Clone, Copy)]
 pub struct Numbers {
     pub fault: Checked,
     pub count: usize,

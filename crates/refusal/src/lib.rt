@@ -3,28 +3,28 @@ ghost use Rattle.refusal.specs.Numbers.{refusal};
 ghost use Rattle.refusal.specs.Checks.{or_else};
 
 // A refusal: one of the documents' numbers, and the place that it names.
-#[derive(Drop)]
+#[derive(Clone, Copy)]
 pub struct Refusal {
     pub number: u64,
     pub place: u64,
 }
 
 // Done, or refused: the answer of a check and of every entry that only does or refuses.
-#[derive(Drop)]
+#[derive(Clone, Copy)]
 pub enum Checked {
     Accepted,
     Refused(Refusal),
 }
 
 // A number, or refused.
-#[derive(Drop)]
+#[derive(Clone, Copy)]
 pub enum Numbered {
     Number(u64),
     Refused(Refusal),
 }
 
 // Yes or no, or refused.
-#[derive(Drop)]
+#[derive(Clone, Copy)]
 pub enum Decided {
     Yes,
     No,

@@ -7,14 +7,14 @@ use sheetwords::Filled;
 use valuesheet::Printed;
 
 // An accepted sheet: N, the words filled, and the value sheet's length.
-#[derive(Drop)]
+#[derive(Clone, Copy)]
 pub struct SheetCounts {
     pub atoms: usize,
     pub words: usize,
     pub bytes: usize,
 }
 
-#[derive(Drop)]
+#[derive(Clone, Copy)]
 pub enum SheetAnswer {
     Accepted(SheetCounts),
     Refused(Refusal),

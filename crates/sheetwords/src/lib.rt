@@ -11,7 +11,7 @@ use reader::Reading;
 use refusal::Refusal;
 
 // What reading a sheet into words answers: N and the words filled, or the refusal.
-#[derive(Drop)]
+#[derive(Clone, Copy)]
 pub enum Filled {
     Read(usize, usize),
     Refused(Refusal),

@@ -71,7 +71,7 @@ pub fn group_code(table: &[u16], values: &[u8], n: usize, at: usize, k: usize) -
 }
 
 // The code of a body's value, and where the next record begins.
-#[derive(Drop)]
+#[derive(Clone, Copy)]
 pub struct BodyCode {
     pub code: usize,
     pub next: usize,
@@ -130,7 +130,7 @@ fn follows(body: usize, head: usize) -> bool
 }
 
 // Whether a rule is satisfied, and where the next record begins.
-#[derive(Drop)]
+#[derive(Clone, Copy)]
 pub struct Ruled {
     pub holds: bool,
     pub next: usize,

@@ -8,7 +8,7 @@ ghost use Rattle.valuesheet.specs.Fitting.{line_bytes, bytes_for, printing, text
 use refusal::Refusal;
 
 // What printing answers: the bytes written, or that they do not fit.
-#[derive(Drop)]
+#[derive(Clone, Copy)]
 pub enum Printed {
     Whole(usize),
     Refused(Refusal),

@@ -155,7 +155,7 @@ fn look(
 }
 
 // One record was looked at, or none is left; where to go on, and the next rank.
-#[derive(Drop)]
+#[derive(Clone, Copy)]
 pub struct Turn {
     pub next: usize,
     pub rank: usize,

@@ -8,7 +8,7 @@ ghost use Rattle.words.specs.Check.{fault, code_fault, repeat_fault, range_fault
 use refusal::Checked;
 
 // What the next word is. A length or a literal says how many groups come after its own, a literal how many after it in its group.
-#[derive(Drop)]
+#[derive(Clone, Copy)]
 pub enum Due {
     Head,
     Line,

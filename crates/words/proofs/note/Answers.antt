@@ -1,0 +1,7 @@
+use mathlib.Core.Path.{sym}
+use borrow.Author.Rules.{rules}
+use Rattle.words.proofs.note.Goals as goal
+
+pub returns-in-Head : goal.returns-in-Head
+returns-in-Head c =
+    simp (c.in-Head.is, sym c.put.ensures)

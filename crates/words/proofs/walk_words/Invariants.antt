@@ -1,0 +1,17 @@
+use mathlib.Core.Path.{◌≡◌, refl, ◌∙◌}
+use Prim.Native.Nat.{◌≤◌, ◌-◌, zero-le}
+use native.Mathlib.Omega.{arith}
+use borrow.Author.Rules.{rules}
+use lib.ListN.{length, drop}
+use Rattle.bits.specs.Sets.{member}
+use Rattle.words.specs.declared.Due.TheVariants.{Head}
+use Rattle.words.specs.Check.{walk, no_heads}
+use Rattle.words.proofs.Steps.{starts, goes_on, stops, ends, length_noted_16}
+use Rattle.words.proofs.walk_words.Given as goal
+
+abbrev pub invariant-loop-i : goal.invariant-loop-i
+invariant-loop-i l =
+    (l.i ≤ length l.table) × (length l.seen ≡ 16) × (walk l.n (member l.seen) l.due l.i (drop l.i l.table) ≡ walk l.n no_heads Head 0 l.table)
+
+abbrev pub decreases-loop-i : goal.decreases-loop-i
+decreases-loop-i l = length l.table - l.i
