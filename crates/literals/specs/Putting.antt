@@ -11,7 +11,6 @@ use Rattle.reader.specs.declared.Role.{Role}
 use Rattle.reader.specs.declared.Role.TheVariants.{Head, First, Further}
 use Rattle.reader.specs.declared.SheetLiteral.{SheetLiteral}
 use Rattle.names.specs.Names.{entry_for}
-use Rattle.names.specs.NameIndex.{NameIndex}
 use Rattle.literals.specs.declared.Counts.{Counts}
 use Rattle.literals.specs.declared.Taken.{Taken}
 use Rattle.literals.specs.declared.Taken.TheVariants.{On, Off}
@@ -84,7 +83,3 @@ pub record Took (s : List ℕ) (p : ℕ) (l : SheetLiteral) (k : Counts) (ws nam
   pub faultless : fault_in s k ws names heads p l ≡ Accepted
       → (k' : Counts) × (r ≡ On k') × Put (atom_in s k names l) (code_in s k names l) l k ws names heads k' ws' names' heads'
   pub faulty : (x : Refusal) → fault_in s k ws names heads p l ≡ Faulty x → (r ≡ Off x) × (ws' ≡ ws) × (names' ≡ names) × (heads' ≡ heads)
-
--- where a literal has been put, the index has the names with its own
-abbrev pub StillIndexed : List ℕ → Taken → List ℕ → List ℕ → Type 0
-StillIndexed s r names x = (k : Counts) → r ≡ On k → NameIndex s (take k.atoms names) x

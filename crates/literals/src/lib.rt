@@ -1,13 +1,12 @@
-ghost use Rattle.std.specs.Prelude.{◌≡◌, ◌+◌, ◌<◌, ◌≤◌, length, get_or, take};
+ghost use Rattle.std.specs.Prelude.{◌≡◌, ◌+◌, ◌<◌, ◌≤◌, length, get_or};
 ghost use Rattle.limits.specs.Limits.{most_atoms, most_words, most_in_body, most_name_bytes, most_sheet_bytes};
 ghost use Rattle.bits.specs.Sets.{member};
 ghost use Rattle.words.specs.Layout.{line_number_at, groups_at, body_at, literals_at};
 ghost use Rattle.words.specs.RecordAt.{groups_in};
 ghost use Rattle.refusal.specs.Numbers.{refusal};
 ghost use Rattle.names.specs.Names.{entry_for};
-ghost use Rattle.names.specs.NameIndex.{Inside, NameIndex};
 ghost use Rattle.literals.specs.Literals.{code_for, words_for, repeats, fault_with};
-ghost use Rattle.literals.specs.Putting.{names_with, put_words, put_name, put_head, counted, Room, body_in, fault_by, Put, Took, StillIndexed};
+ghost use Rattle.literals.specs.Putting.{names_with, put_words, put_name, put_head, counted, Room, body_in, fault_by, Put, Took};
 
 use reader::{Role, SheetLiteral};
 use refusal::{Checked, Refusal};
@@ -262,25 +261,11 @@ fn put_literal(
     count_on(role, atom, counts)
 }
 
-// A new name is put into the index of names.
-fn index_name(sheet: &[u8], names: &[u32], index: &mut [u16], atom: usize, atoms: usize)
-    requires atoms_in_bounds { names_with atom atoms ≤ length names.now }
-    requires atoms_bound { names_with atom atoms ≤ most_atoms }
-    requires inside { atoms ≤ atom → Inside sheet.now (get_or names.now atoms 0) }
-    requires name_index { NameIndex sheet.now (take atoms names.now) index.old }
-    ensures { NameIndex sheet.now (take (names_with atom atoms) names.now) index.new }
-{
-    if atoms <= atom {
-        names::note(sheet, names, index, atoms);
-    }
-}
-
 // Takes the literal at `place` into the buffers, unless it has a fault.
 pub fn take_literal(
     sheet: &[u8],
     words: &mut [u16],
     names: &mut [u32],
-    index: &mut [u16],
     heads: &mut [u64],
     counts: Counts,
     place: usize,
@@ -289,19 +274,12 @@ pub fn take_literal(
     requires room { Room counts words.old names.old }
     requires start_le_most_sheet_bytes { l.start ≤ most_sheet_bytes }
     requires len_le_most_name_bytes { l.len ≤ most_name_bytes }
-    requires len_in_bounds { l.start + l.len ≤ length sheet.now }
-    requires name_index { NameIndex sheet.now (take counts.atoms names.old) index.old }
-    ensures took { Took sheet.now place l counts words.old names.old heads.old result words.new names.new heads.new }
-    ensures still_indexed { StillIndexed sheet.now result names.new index.new }
+    ensures { Took sheet.now place l counts words.old names.old heads.old result words.new names.new heads.new }
 {
-    let start = l.start;
-    let end = l.start + l.len;
-    let atom = names::number(sheet, names, index, counts.atoms, &sheet[start..end]);
+    let atom = names::number(sheet, names, counts.atoms, l.start, l.len);
     let code = code_for(l.negated, atom);
     if let Checked::Refused(r) = fault_of(words, heads, counts, atom, code, place, l) {
         return Taken::Off(r);
     }
-    let after = put_literal(words, names, heads, counts, atom, code, l);
-    index_name(sheet, names, index, atom, counts.atoms);
-    Taken::On(after)
+    Taken::On(put_literal(words, names, heads, counts, atom, code, l))
 }

@@ -1,165 +1,161 @@
--- Names compared many bytes at a time: equal numbers are equal bytes. Assumes nothing.
+-- Bytes compared many at a time: equal numbers are equal bytes. Assumes nothing.
 use mathlib.Core.Path.{◌≡◌, refl, sym, ap, ap₂, ◌∙◌}
-use mathlib.Core.List.{List, [], ◌∷◌}
+use mathlib.Core.List.{List}
 use mathlib.Core.Bool.{Bool, true, false, ◌&&◌, true≢false}
 use Prim.Native.Nat.{ℕ, zero, suc, ◌+◌, ◌-◌, ◌*◌, ◌<◌, ◌≤◌}
 use native.Mathlib.Omega.{arith}
 use lib.Dec.{eqb, ltb}
-use lib.ListN.{length}
-use borrow.Author.Tests.{eq-eqb, eqb-true, eqb-false, ltb-true, ltb-false}
-use Rattle.sets.proofs.Tests.{and_both}
+use borrow.Author.Tests.{eq-eqb, eqb-true, ltb-true, ltb-false}
 use Rattle.reader.specs.Sheet.{byte_at}
-use Rattle.names.specs.Names.{same_bytes}
+use Rattle.names.specs.Names.{bytes_at, same_bytes}
 use Rattle.names.specs.Eights.{pair_at, four_at, eight_at}
-use Rattle.names.specs.Buckets.{short_of}
 
--- equal bytes from place p up to place e
-abbrev pub Same : List ℕ → List ℕ → ℕ → ℕ → Type 0
-Same u v p e = (j : ℕ) → p ≤ j → j < e → byte_at u j ≡ byte_at v j
+-- the n bytes from a on are those from b on
+abbrev pub Same : List ℕ → ℕ → ℕ → ℕ → Type 0
+Same s a b n = (j : ℕ) → j < n → byte_at s (a + j) ≡ byte_at s (b + j)
 
-pub none_same : (u v : List ℕ) → Same u v 0 0
-none_same u v j h l = absurd (omega arith)
+at : (s : List ℕ) (p q : ℕ) → p ≡ q → byte_at s p ≡ byte_at s q
+at s p q e = ap (byte_at s) e
 
-same_is_true : (u v : List ℕ) → length u ≡ length v → Same u v 0 (length u) → same_bytes u v ≡ true
-unfolding same_bytes
-same_is_true [] [] l h = refl
-same_is_true [] (b ∷ v) l h = absurd (omega (arith, l))
-same_is_true (a ∷ u) [] l h = absurd (omega (arith, l))
-same_is_true (a ∷ u) (b ∷ v) l h =
-    ap₂ (λ (x y : Bool). x && y) (eq-eqb a b (h 0 (omega arith) (omega arith)))
-    (same_is_true u v (omega (arith, l)) (λ j k m. h (suc j) (omega arith) (omega (arith, m))))
+first_of : (s : List ℕ) (a b n : ℕ) → Same s a b (suc n) → byte_at s a ≡ byte_at s b
+first_of s a b n h = at s a (a + 0) (omega arith) ∙ h 0 (omega arith) ∙ at s (b + 0) b (omega arith)
 
-true_is_same : (u v : List ℕ) → same_bytes u v ≡ true → (j : ℕ) → byte_at u j ≡ byte_at v j
-unfolding same_bytes
-true_is_same [] [] t j = refl
-true_is_same [] (b ∷ v) t j = absurd (true≢false (sym t))
-true_is_same (a ∷ u) [] t j = absurd (true≢false (sym t))
-true_is_same (a ∷ u) (b ∷ v) t zero = eqb-true a b (and_both (eqb a b) (same_bytes u v) t).0
-true_is_same (a ∷ u) (b ∷ v) t (suc j) = true_is_same u v (and_both (eqb a b) (same_bytes u v) t).1 j
+rest_of : (s : List ℕ) (a b n : ℕ) → Same s a b (suc n) → Same s (suc a) (suc b) n
+rest_of s a b n h j l = at s (suc a + j) (a + suc j) (omega arith) ∙ h (suc j) (omega arith) ∙ at s (b + suc j) (suc b + j) (omega arith)
+
+same_is_true : (s : List ℕ) (a b n : ℕ) → Same s a b n → same_bytes (bytes_at s a n) (bytes_at s b n) ≡ true
+unfolding same_bytes bytes_at
+same_is_true s a b zero h = refl
+same_is_true s a b (suc n) h =
+    ap₂ (λ (x y : Bool). x && y) (eq-eqb (byte_at s a) (byte_at s b) (first_of s a b n h)) (same_is_true s (suc a) (suc b) n (rest_of s a b n h))
+
+both : (x y : Bool) → x && y ≡ true → (x ≡ true) × (y ≡ true)
+both true y e = (refl, e)
+both false y e = absurd (true≢false (sym e))
+
+true_is_same : (s : List ℕ) (a b n : ℕ) → same_bytes (bytes_at s a n) (bytes_at s b n) ≡ true → Same s a b n
+unfolding same_bytes bytes_at
+true_is_same s a b zero e j l = absurd (omega arith)
+true_is_same s a b (suc n) e zero l =
+    at s (a + 0) a (omega arith)
+    ∙ eqb-true (byte_at s a) (byte_at s b) (both (eqb (byte_at s a) (byte_at s b)) (same_bytes (bytes_at s (suc a) n) (bytes_at s (suc b) n)) e).0
+    ∙ at s b (b + 0) (omega arith)
+true_is_same s a b (suc n) e (suc j) l =
+    at s (a + suc j) (suc a + j) (omega arith)
+    ∙ true_is_same s (suc a) (suc b) n (both (eqb (byte_at s a) (byte_at s b)) (same_bytes (bytes_at s (suc a) n) (bytes_at s (suc b) n)) e).1 j (omega arith)
+    ∙ at s (suc b + j) (b + suc j) (omega arith)
+
+differs_is_false : (s : List ℕ) (a b n : ℕ) → (Same s a b n → ⊥) → same_bytes (bytes_at s a n) (bytes_at s b n) ≡ false
+differs_is_false s a b n h = by (same_bytes (bytes_at s a n) (bytes_at s b n)) refl
+  where
+    by : (x : Bool) → same_bytes (bytes_at s a n) (bytes_at s b n) ≡ x → x ≡ false
+    by true e = absurd (h (true_is_same s a b n e))
+    by false e = refl
+
+part : (s : List ℕ) (a b n i m : ℕ) → i + m ≤ n → Same s a b n → Same s (a + i) (b + i) m
+part s a b n i m k h j l = at s (a + i + j) (a + (i + j)) (omega arith) ∙ h (i + j) (omega arith) ∙ at s (b + (i + j)) (b + i + j) (omega arith)
 
 -- a front, and a part that begins in it or after it at once
-join : (u v : List ℕ) (p m q e : ℕ) → q ≤ m → Same u v p m → Same u v q e → Same u v p e
-join u v p m q e h front rest j k l = by (ltb j m) refl
+join : (s : List ℕ) (a b i k m n : ℕ) → k ≤ i → n ≤ k + m → Same s a b i → Same s (a + k) (b + k) m → Same s a b n
+join s a b i k m n h h' front rest j l = by (ltb j i) refl
   where
-    by : (x : Bool) → ltb j m ≡ x → byte_at u j ≡ byte_at v j
-    by true t = front j k (ltb-true j m t)
-    by false t = rest j (omega (arith, ltb-false j m t)) l
+    by : (x : Bool) → ltb j i ≡ x → byte_at s (a + j) ≡ byte_at s (b + j)
+    by true e = front j (ltb-true j i e)
+    by false e =
+        let later = ltb-false j i e in
+        at s (a + j) (a + k + (j - k)) (omega arith) ∙ rest (j - k) (omega arith) ∙ at s (b + k + (j - k)) (b + j) (omega arith)
 
 -- numbers of equal bytes are equal
-same_pairs : (u v : List ℕ) (p : ℕ) → Same u v p (p + 2) → pair_at u p ≡ pair_at v p
+same_pairs : (s : List ℕ) (a b : ℕ) → Same s a b 2 → pair_at s a ≡ pair_at s b
 unfolding pair_at
-same_pairs u v p h = ap₂ (λ (x y : ℕ). x + 256 * y) (h p (omega arith) (omega arith)) (h (p + 1) (omega arith) (omega arith))
+same_pairs s a b h = ap₂ (λ (x y : ℕ). x + 256 * y) (first_of s a b 1 h) (h 1 (omega arith))
 
-same_fours : (u v : List ℕ) (p : ℕ) → Same u v p (p + 4) → four_at u p ≡ four_at v p
+same_fours : (s : List ℕ) (a b : ℕ) → Same s a b 4 → four_at s a ≡ four_at s b
 unfolding four_at
-same_fours u v p h =
-    ap₂ (λ (x y : ℕ). x + 65536 * y) (same_pairs u v p (λ j k l. h j k (omega arith)))
-    (same_pairs u v (p + 2) (λ j k l. h j (omega arith) (omega arith)))
+same_fours s a b h =
+    ap₂ (λ (x y : ℕ). x + 65536 * y) (same_pairs s a b (λ j l. h j (omega arith))) (same_pairs s (a + 2) (b + 2) (part s a b 4 2 2 (omega arith) h))
 
-same_eights : (u v : List ℕ) (p : ℕ) → Same u v p (p + 8) → eight_at u p ≡ eight_at v p
+same_eights : (s : List ℕ) (a b : ℕ) → Same s a b 8 → eight_at s a ≡ eight_at s b
 unfolding eight_at
-same_eights u v p h =
-    ap₂ (λ (x y : ℕ). x + 4294967296 * y) (same_fours u v p (λ j k l. h j k (omega arith)))
-    (same_fours u v (p + 4) (λ j k l. h j (omega arith) (omega arith)))
-
-same_short : (u v : List ℕ) → Same u v 0 3 → short_of u ≡ short_of v
-unfolding short_of
-same_short u v h =
-    ap₂ (λ (x y : ℕ). x + 65536 * y) (same_pairs u v 0 (λ j k l. h j k (omega arith))) (h 2 (omega arith) (omega arith))
+same_eights s a b h =
+    ap₂ (λ (x y : ℕ). x + 4294967296 * y) (same_fours s a b (λ j l. h j (omega arith))) (same_fours s (a + 4) (b + 4) (part s a b 8 4 4 (omega arith) h))
 
 -- and equal numbers are of equal bytes
-module _ (u v : List ℕ) (small : (i : ℕ) → byte_at u i < 256) (small' : (i : ℕ) → byte_at v i < 256) where
-  one_same : (p : ℕ) → byte_at u p ≡ byte_at v p → Same u v p (p + 1)
-  one_same p e j k l = let here : j ≡ p = omega arith in ap (byte_at u) here ∙ e ∙ ap (byte_at v) (sym here)
-
-  pair_small : (p : ℕ) → pair_at u p < 65536
+module _ (s : List ℕ) (bytes : (i : ℕ) → byte_at s i < 256) where
+  pair_small : (p : ℕ) → pair_at s p < 65536
   unfolding pair_at
-  pair_small p = omega (arith, small p, small (p + 1))
+  pair_small p = omega (arith, bytes p, bytes (p + 1))
 
-  pair_small' : (p : ℕ) → pair_at v p < 65536
-  unfolding pair_at
-  pair_small' p = omega (arith, small' p, small' (p + 1))
-
-  four_small : (p : ℕ) → four_at u p < 4294967296
+  four_small : (p : ℕ) → four_at s p < 4294967296
   unfolding four_at
   four_small p = omega (arith, pair_small p, pair_small (p + 2))
 
-  four_small' : (p : ℕ) → four_at v p < 4294967296
-  unfolding four_at
-  four_small' p = omega (arith, pair_small' p, pair_small' (p + 2))
-
-  pairs_same : (p : ℕ) → pair_at u p ≡ pair_at v p → Same u v p (p + 2)
+  pairs_same : (a b : ℕ) → pair_at s a ≡ pair_at s b → Same s a b 2
   unfolding pair_at
-  pairs_same p e =
-      let low : byte_at u p ≡ byte_at v p = omega (arith, e, small p, small' p) in
-      let high : byte_at u (p + 1) ≡ byte_at v (p + 1) = omega (arith, e, small p, small' p) in
-      join u v p (p + 1) (p + 1) (p + 2) (omega arith) (one_same p low) (λ j k l. one_same (p + 1) high j k (omega arith))
+  pairs_same a b e zero l =
+      at s (a + 0) a (omega arith) ∙ omega (arith, e, bytes a, bytes b, bytes (a + 1), bytes (b + 1)) ∙ at s b (b + 0) (omega arith)
+  pairs_same a b e (suc zero) l = omega (arith, e, bytes a, bytes b, bytes (a + 1), bytes (b + 1))
+  pairs_same a b e (suc (suc j)) l = absurd (omega arith)
 
-  fours_same : (p : ℕ) → four_at u p ≡ four_at v p → Same u v p (p + 4)
+  fours_same : (a b : ℕ) → four_at s a ≡ four_at s b → Same s a b 4
   unfolding four_at
-  fours_same p e =
-      let low : pair_at u p ≡ pair_at v p = omega (arith, e, pair_small p, pair_small' p) in
-      let high : pair_at u (p + 2) ≡ pair_at v (p + 2) = omega (arith, e, pair_small p, pair_small' p) in
-      join u v p (p + 2) (p + 2) (p + 4) (omega arith) (pairs_same p low) (λ j k l. pairs_same (p + 2) high j k (omega arith))
+  fours_same a b e =
+      let small : pair_at s a ≡ pair_at s b = omega (arith, e, pair_small a, pair_small b) in
+      let large : pair_at s (a + 2) ≡ pair_at s (b + 2) = omega (arith, e, pair_small a, pair_small b) in
+      join s a b 2 2 2 4 (omega arith) (omega arith) (pairs_same a b small) (pairs_same (a + 2) (b + 2) large)
 
-  eights_same : (p : ℕ) → eight_at u p ≡ eight_at v p → Same u v p (p + 8)
+  eights_same : (a b : ℕ) → eight_at s a ≡ eight_at s b → Same s a b 8
   unfolding eight_at
-  eights_same p e =
-      let low : four_at u p ≡ four_at v p = omega (arith, e, four_small p, four_small' p) in
-      let high : four_at u (p + 4) ≡ four_at v (p + 4) = omega (arith, e, four_small p, four_small' p) in
-      join u v p (p + 4) (p + 4) (p + 8) (omega arith) (fours_same p low) (λ j k l. fours_same (p + 4) high j k (omega arith))
+  eights_same a b e =
+      let small : four_at s a ≡ four_at s b = omega (arith, e, four_small a, four_small b) in
+      let large : four_at s (a + 4) ≡ four_at s (b + 4) = omega (arith, e, four_small a, four_small b) in
+      join s a b 4 4 4 8 (omega arith) (omega arith) (fours_same a b small) (fours_same (a + 4) (b + 4) large)
 
-  short_same : short_of u ≡ short_of v → Same u v 0 3
-  unfolding short_of
-  short_same e =
-      let low : pair_at u 0 ≡ pair_at v 0 = omega (arith, e, pair_small 0, pair_small' 0) in
-      let high : byte_at u 2 ≡ byte_at v 2 = omega (arith, e, pair_small 0, pair_small' 0) in
-      join u v 0 2 2 3 (omega arith) (pairs_same 0 low) (one_same 2 high)
+  module _ (a b n : ℕ) where
+    -- four to eight bytes: the first four and the last four
+    pub fours_differ : (x y : ℕ) → 4 ≤ n → x ≡ four_at s a → y ≡ four_at s b
+        → (x ≡ y → ⊥) → false ≡ same_bytes (bytes_at s a n) (bytes_at s b n)
+    fours_differ x y h ex ey d =
+        sym (differs_is_false s a b n (λ same. d (ex ∙ same_fours s a b (λ j l. same j (omega arith)) ∙ sym ey)))
 
-  -- numbers that are equal where the bytes are: different numbers, different names
-  differ : (x y : ℕ) → (((j : ℕ) → byte_at u j ≡ byte_at v j) → x ≡ y) → (x ≡ y → ⊥) → false ≡ same_bytes u v
-  differ x y onward d = by (same_bytes u v) refl
-    where
-      by : (t : Bool) → same_bytes u v ≡ t → false ≡ t
-      by true t = absurd (d (onward (true_is_same u v t)))
-      by false t = refl
+    pub fours_decide : (x y x' y' : ℕ) → 4 ≤ n → n ≤ 8 → x ≡ four_at s a → y ≡ four_at s b
+        → x ≡ y → x' ≡ four_at s (a + (n - 4)) → y' ≡ four_at s (b + (n - 4))
+        → eqb x' y' ≡ same_bytes (bytes_at s a n) (bytes_at s b n)
+    fours_decide x y x' y' h h' ex ey e ex' ey' = by (eqb x' y') refl
+      where
+        by : (t : Bool) → eqb x' y' ≡ t → t ≡ same_bytes (bytes_at s a n) (bytes_at s b n)
+        by true q =
+            sym (same_is_true s a b n
+            (join s a b 4 (n - 4) 4 n
+            (omega arith) (omega arith) (fours_same a b (sym ex ∙ e ∙ ey))
+            (fours_same (a + (n - 4)) (b + (n - 4)) (sym ex' ∙ eqb-true x' y' q ∙ ey'))))
+        by false q =
+            sym (differs_is_false s a b n
+            (λ same. true≢false
+            (sym (eq-eqb x' y' (ex' ∙ same_fours s (a + (n - 4)) (b + (n - 4)) (part s a b n (n - 4) 4 (omega arith) same) ∙ sym ey')) ∙ q)))
 
-  -- and, where equal numbers leave no byte that differs, equal numbers, equal names
-  decide : (x y : ℕ) → length u ≡ length v → (((j : ℕ) → byte_at u j ≡ byte_at v j) → x ≡ y) → (x ≡ y → Same u v 0 (length u))
-      → eqb x y ≡ same_bytes u v
-  decide x y l onward back = by (eqb x y) refl
-    where
-      by : (t : Bool) → eqb x y ≡ t → t ≡ same_bytes u v
-      by true t = sym (same_is_true u v l (back (eqb-true x y t)))
-      by false t = differ x y onward (eqb-false x y t)
+    -- eight bytes or more: eight at a time
+    pub eights_differ : (i x y : ℕ) → i + 8 ≤ n → x ≡ eight_at s (a + i) → y ≡ eight_at s (b + i)
+        → (x ≡ y → ⊥) → false ≡ same_bytes (bytes_at s a n) (bytes_at s b n)
+    eights_differ i x y h ex ey d =
+        sym (differs_is_false s a b n (λ same. d (ex ∙ same_eights s (a + i) (b + i) (part s a b n i 8 h same) ∙ sym ey)))
 
-  -- at most three bytes
-  pub short_decides : (x y : ℕ) → length u ≡ length v → length u < 4 → x ≡ short_of u → y ≡ short_of v → eqb x y ≡ same_bytes u v
-  short_decides x y l h ex ey =
-      decide x y l (λ same. ex ∙ same_short u v (λ j k m. same j) ∙ sym ey)
-      (λ e j k m. short_same (sym ex ∙ e ∙ ey) j k (omega arith))
+    pub eight_more : (i x y : ℕ) → x ≡ eight_at s (a + i) → y ≡ eight_at s (b + i) → x ≡ y → Same s a b i → Same s a b (i + 8)
+    eight_more i x y ex ey e front = join s a b i i 8 (i + 8) (omega arith) (omega arith) front (eights_same (a + i) (b + i) (sym ex ∙ e ∙ ey))
 
-  -- four to eight bytes: the first four and the last four
-  pub fours_differ : (x y : ℕ) → x ≡ four_at u 0 → y ≡ four_at v 0 → (x ≡ y → ⊥) → false ≡ same_bytes u v
-  fours_differ x y ex ey = differ x y (λ same. ex ∙ same_fours u v 0 (λ j k m. same j) ∙ sym ey)
+    -- and the last eight
+    pub eights_decide : (i x y : ℕ) → 8 ≤ n → n - 8 ≤ i → x ≡ eight_at s (a + (n - 8)) → y ≡ eight_at s (b + (n - 8)) → Same s a b i
+        → eqb x y ≡ same_bytes (bytes_at s a n) (bytes_at s b n)
+    eights_decide i x y h h' ex ey front = by (eqb x y) refl
+      where
+        by : (t : Bool) → eqb x y ≡ t → t ≡ same_bytes (bytes_at s a n) (bytes_at s b n)
+        by true q =
+            sym (same_is_true s a b n
+            (join s a b i (n - 8) 8 n h' (omega arith) front (eights_same (a + (n - 8)) (b + (n - 8)) (sym ex ∙ eqb-true x y q ∙ ey))))
+        by false q =
+            sym (differs_is_false s a b n
+            (λ same. true≢false
+            (sym (eq-eqb x y (ex ∙ same_eights s (a + (n - 8)) (b + (n - 8)) (part s a b n (n - 8) 8 (omega arith) same) ∙ sym ey)) ∙ q)))
 
-  pub fours_decide : (x y x' y' p : ℕ) → length u ≡ length v → 4 ≤ length u → length u ≤ 8 → p ≡ length u - 4
-      → x ≡ four_at u 0 → y ≡ four_at v 0 → x ≡ y → x' ≡ four_at u p → y' ≡ four_at v p → eqb x' y' ≡ same_bytes u v
-  fours_decide x y x' y' p l h h' last ex ey e ex' ey' =
-      decide x' y' l (λ same. ex' ∙ same_fours u v p (λ j k m. same j) ∙ sym ey')
-      (λ e'. join u v 0 4 p (length u) (omega (arith, last)) (fours_same 0 (sym ex ∙ e ∙ ey))
-      (λ j k m. fours_same p (sym ex' ∙ e' ∙ ey') j k (omega (arith, last))))
-
-  -- eight bytes or more: eight at a time
-  pub eights_differ : (i x y : ℕ) → x ≡ eight_at u i → y ≡ eight_at v i → (x ≡ y → ⊥) → false ≡ same_bytes u v
-  eights_differ i x y ex ey = differ x y (λ same. ex ∙ same_eights u v i (λ j k m. same j) ∙ sym ey)
-
-  pub eight_more : (i x y : ℕ) → x ≡ eight_at u i → y ≡ eight_at v i → x ≡ y → Same u v 0 i → Same u v 0 (i + 8)
-  eight_more i x y ex ey e front = join u v 0 i i (i + 8) (omega arith) front (eights_same i (sym ex ∙ e ∙ ey))
-
-  -- and the last eight
-  pub eights_decide : (i x y p : ℕ) → length u ≡ length v → 8 ≤ length u → p ≡ length u - 8 → p ≤ i
-      → x ≡ eight_at u p → y ≡ eight_at v p → Same u v 0 i → eqb x y ≡ same_bytes u v
-  eights_decide i x y p l h last h' ex ey front =
-      decide x y l (λ same. ex ∙ same_eights u v p (λ j k m. same j) ∙ sym ey)
-      (λ e. join u v 0 i p (length u) h' front (λ j k m. eights_same p (sym ex ∙ e ∙ ey) j k (omega (arith, last))))
+pub none_same : (s : List ℕ) (a b : ℕ) → Same s a b 0
+none_same s a b j l = absurd (omega arith)

@@ -2,27 +2,15 @@
 use mathlib.Core.Path.{◌≡◌, refl, sym, ap, ap₂, ◌∙◌}
 use mathlib.Core.List.{List, [], ◌∷◌}
 use mathlib.Core.Bool.{Bool, true, false, ◌&&◌, cond, true≢false}
-use Prim.Native.Nat.{ℕ, zero, suc, ◌+◌, ◌-◌, ◌<◌, ◌≤◌}
+use Prim.Native.Nat.{ℕ, zero, suc, ◌+◌, ◌<◌, ◌≤◌}
 use native.Mathlib.Omega.{arith}
 use lib.Dec.{eqb}
 use lib.ListN.{length, get_or, take, drop}
-use lib.Seq.{drop-cons, length-take-le}
+use lib.Seq.{drop-cons}
 use borrow.Author.Tests.{eqb-true, eq-eqb}
 use Rattle.sets.proofs.Tests.{and_both}
 use Rattle.reader.specs.Sheet.{byte_at}
 use Rattle.names.specs.Names.{bytes_at, entry_for, start_of, length_of, name_of, same_bytes, number_in}
-
--- names of different lengths differ
-pub other_length : (u v : List ℕ) → (length u ≡ length v → ⊥) → same_bytes u v ≡ false
-unfolding same_bytes
-other_length [] [] h = absurd (h refl)
-other_length [] (b ∷ v) h = refl
-other_length (a ∷ u) [] h = refl
-other_length (a ∷ u) (b ∷ v) h = by (eqb a b) (other_length u v (λ e. h (ap suc e)))
-  where
-    by : (x : Bool) → same_bytes u v ≡ false → (x && same_bytes u v) ≡ false
-    by true e = e
-    by false e = refl
 
 -- names that count as equal have the same bytes, and the other way round
 pub same_bytes_equal : (u v : List ℕ) → same_bytes u v ≡ true → u ≡ v
@@ -51,35 +39,19 @@ number_names s (e ∷ es) name h = by (same_bytes (name_of s e) name) refl h (nu
     by true q g onward = same_bytes_equal (name_of s e) name q
     by false q g onward = onward (omega arith)
 
--- the number of a name that an entry has is at most that entry's
-pub number_first : (s es name : List ℕ) (a : ℕ) → a < length es → name_of s (get_or es a 0) ≡ name → number_in s es name ≤ a
+-- a name that an entry has is not new
+pub number_new : (s es name : List ℕ) (a : ℕ) → a < length es → name_of s (get_or es a 0) ≡ name → number_in s es name < length es
 unfolding number_in
-number_first s [] name a h q = absurd (omega arith)
-number_first s (e ∷ es) name a h q = by a h q (same_bytes (name_of s e) name) refl (number_first s es name)
+number_new s [] name a h q = absurd (omega arith)
+number_new s (e ∷ es) name a h q = by a h q (same_bytes (name_of s e) name) refl (number_new s es name)
   where
     by : (a : ℕ) → a < suc (length es) → name_of s (get_or (e ∷ es) a 0) ≡ name → (b : Bool) → same_bytes (name_of s e) name ≡ b
-        → ((c : ℕ) → c < length es → name_of s (get_or es c 0) ≡ name → number_in s es name ≤ c)
-        → cond b 0 (suc (number_in s es name)) ≤ a
+        → ((c : ℕ) → c < length es → name_of s (get_or es c 0) ≡ name → number_in s es name < length es)
+        → cond b 0 (suc (number_in s es name)) < suc (length es)
     by a h q true r onward = omega arith
     by zero h q false r onward =
         absurd (true≢false (sym (ap (same_bytes (name_of s e)) (sym q) ∙ equal_same_bytes (name_of s e)) ∙ r))
     by (suc c) h q false r onward = omega (arith, onward c (omega arith) q)
-
--- a name that an entry has is not new
-pub number_new : (s es name : List ℕ) (a : ℕ) → a < length es → name_of s (get_or es a 0) ≡ name → number_in s es name < length es
-number_new s es name a h q = omega (arith, h, number_first s es name a h q)
-
-pub number_at_most : (s es name : List ℕ) → number_in s es name ≤ length es
-unfolding number_in
-number_at_most s [] name = omega arith
-number_at_most s (e ∷ es) name = by (same_bytes (name_of s e) name) (number_at_most s es name)
-  where
-    by : (x : Bool) → number_in s es name ≤ length es → cond x 0 (suc (number_in s es name)) ≤ suc (length es)
-    by true h = omega arith
-    by false h = omega arith
-
-pub number_in_front : (s es name : List ℕ) (count : ℕ) → count ≤ length es → number_in s (take count es) name ≤ count
-number_in_front s es name count fits = omega (arith, number_at_most s (take count es) name, length-take-le count es fits)
 
 -- a name's bytes are those of the sheet, where it lies in the sheet
 pub bytes_of_sheet : (s : List ℕ) (q n : ℕ) → q + n ≤ length s → bytes_at s q n ≡ take n (drop q s)
@@ -87,13 +59,6 @@ unfolding bytes_at
 bytes_of_sheet s q zero h = refl
 bytes_of_sheet s q (suc n) h =
     ap (λ (l : List ℕ). byte_at s q ∷ l) (bytes_of_sheet s (suc q) n (omega arith)) ∙ sym (ap (take (suc n)) (drop-cons s q 0 (omega arith)))
-
--- the part of the sheet that an entry tells is its name
-pub part_is_name : (s : List ℕ) (e : ℕ) → start_of e + length_of e ≤ length s
-    → take (start_of e + length_of e - start_of e) (drop (start_of e) s) ≡ name_of s e
-part_is_name s e h =
-    let size : start_of e + length_of e - start_of e ≡ length_of e = omega arith in
-    ap (λ (n : ℕ). take n (drop (start_of e) s)) size ∙ sym (bytes_of_sheet s (start_of e) (length_of e) h)
 
 -- an entry keeps the start and the length of its name
 pub entry_start : (q n : ℕ) → n < 32 → start_of (entry_for q n) ≡ q

@@ -1,4 +1,3 @@
 pub mod Steps
 pub mod Laws
 pub mod Eights
-pub mod Indexing

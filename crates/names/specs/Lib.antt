@@ -1,4 +1,2 @@
 pub mod Names
 pub mod Eights
-pub mod Buckets
-pub mod NameIndex

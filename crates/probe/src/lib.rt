@@ -3,7 +3,6 @@ ghost use Rattle.std.specs.Prelude.{◌≡◌, ◌≤◌, length};
 ghost use Rattle.truth.specs.Connectives.{conjunction, disjunction, negated, implied};
 ghost use Rattle.words.specs.Check.{table_check};
 ghost use Rattle.bits.specs.Sets.{member};
-ghost use Rattle.names.specs.Buckets.{bucket_of};
 ghost use Rattle.reader.specs.Readings.{reading_at, place_after, next_at};
 ghost use Rattle.probe.specs.Packed.{packed_wrapping, checked_number, numbered_number, decided_number, pick_number, FreshPacked, PickPacked, SettledPacked, ReportPacked, CountPacked, ConflictPacked, which_number, WhichPacked, EvaluationPacked, role_number, literal_number, reading_number, name_start, name_length, sheet_number, sheet_atoms, sheet_words, SheetPacked};
 
@@ -256,13 +255,6 @@ fn put_reading(reading: Reading, start: &mut usize, len: &mut usize) -> u64
     *start = name_start(reading);
     *len = name_length(reading);
     reading_number(reading)
-}
-
-#[unsafe(no_mangle)]
-pub extern "C" fn probe_bucket(name: &[u8]) -> u64
-    ensures { result ≡ bucket_of name.now }
-{
-    names::bucket(name) as u64
 }
 
 #[unsafe(no_mangle)]

@@ -23,7 +23,7 @@ use Rattle.reader.specs.Sheet.{byte_at, is_line_end, may_follow, byte_before, li
 use Rattle.reader.specs.Readings.{reading_at, place_after}
 use Rattle.reader.proofs.Laws.{RoleAfter, literal_read, next_after, place_grows, place_inside, first_line, literal_line, next_line}
 use Rattle.names.specs.Names.{bytes_at, entry_for}
-use Rattle.names.proofs.Laws.{number_in_front}
+use Rattle.names.proofs.Steps.{number_in_front}
 use Rattle.literals.specs.declared.Counts.{Counts}
 use Rattle.literals.specs.Literals.{Sofar, nothing, with_literal, words_for, atom_of, code_of, with_name, after, is_head, repeats, fault_with, literal_fault}
 use Rattle.sheetwords.specs.Sheets.{Outcome, accepted, refused, unless, by_reading, sheet_from}

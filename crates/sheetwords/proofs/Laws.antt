@@ -26,7 +26,7 @@ use Rattle.reader.specs.Sheet.{line_of}
 use Rattle.reader.specs.Readings.{reading_at, place_after, reached}
 use Rattle.reader.proofs.Laws.{literal_read}
 use Rattle.names.specs.Names.{bytes_at}
-use Rattle.names.proofs.Laws.{number_at_most}
+use Rattle.names.proofs.Steps.{number_at_most}
 use Rattle.literals.specs.declared.Counts.{Counts}
 use Rattle.literals.specs.Literals.{Sofar, nothing, on_last, last_or, new_record, last_groups, last_group, change_groups, with_literal, atom_of, code_of, with_name, after, is_head, repeats, in_body, literal_fault}
 use Rattle.sheetwords.specs.Sheets.{accepted, sheet_outcome}

@@ -19,7 +19,7 @@ use Rattle.reader.specs.Readings.{reading_at, reached}
 use Rattle.reader.proofs.Laws.{literal_read, ends_at_the_end}
 use Rattle.names.specs.Names.{bytes_at, entry_for, name_of, number_in}
 use Rattle.names.proofs.Laws.{number_names, number_new, entry_start, entry_length}
-use Rattle.names.proofs.Laws.{number_at_most}
+use Rattle.names.proofs.Steps.{number_at_most}
 use Rattle.literals.specs.Literals.{Sofar, atom_of, with_name, after, literal_fault}
 use Rattle.literals.proofs.Lasts.{Below, below_snoc}
 use Rattle.sheetwords.specs.Sheets.{accepted, sheet_outcome}

@@ -51,10 +51,10 @@ place_is s p next r e is = ap (λ (x : Next). x.place) e ∙ ap (λ (x : Reading
 
 -- the name of a literal that was read lies in the sheet
 pub name_fits : (s : List ℕ) (p : ℕ) (next : Next) (l : SheetLiteral) → next ≡ next_at s p
-    → next.reading ≡ Literal l → (l.start ≤ 65536) × (l.len ≤ 24) × (l.start + l.len ≤ length s)
+    → next.reading ≡ Literal l → (l.start ≤ 65536) × (l.len ≤ 24)
 name_fits s p next l e is =
     let known = literal_read s p l (read_is s p next (Literal l) e is) in
-    (omega (arith, known.sheet_fits, known.named.inside), known.named.at_most_24, omega (arith, known.named.inside))
+    (omega (arith, known.sheet_fits, known.named.inside), known.named.at_most_24)
 
 module _ (s : List ℕ) (whole : Outcome) (p : ℕ) (k : Counts) (ws ns heads : List ℕ)
     (inv : Filling s whole p k ws ns heads) (next : Next) (e : next ≡ next_at s p) where

@@ -27,7 +27,6 @@ fn fill(sheet: &[u8], words: &mut [u16], names: &mut [u32]) -> Filled
 {
     // The heads so far: 7 asks whether one is there already.
     let mut heads = [0u64; 16];
-    let mut index = [names::EMPTY; names::CELLS];
     let mut counts = Counts {
         atoms: 0,
         words: 0,
@@ -44,7 +43,7 @@ fn fill(sheet: &[u8], words: &mut [u16], names: &mut [u32]) -> Filled
             Reading::Refused(r) => return Filled::Refused(r),
             Reading::Literal(l) => {
                 let taken = literals::take_literal(
-                    sheet, words, names, &mut index, &mut heads, counts, place, l,
+                    sheet, words, names, &mut heads, counts, place, l,
                 );
                 match taken {
                     Taken::On(c) => counts = c,

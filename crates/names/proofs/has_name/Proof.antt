@@ -1,33 +1,21 @@
-use borrow.Author.Rules.{rules}
+use mathlib.Core.Path.{sym}
+use native.Mathlib.Omega.{arith}
+use Rattle.names.proofs.Steps.{other_length_name}
 use Rattle.names.proofs.has_name.Statement.{statement}
 use Rattle.names.proofs.has_name.Tie as tie
-use mathlib.Core.Path.{ap, ◌∙◌}
-use mathlib.Core.List.{List}
-use Prim.Native.Nat.{ℕ}
-use Rattle.names.specs.Names.{same_bytes}
-use Rattle.names.proofs.Laws.{part_is_name}
-
-add-end : tie.Need-overflow-add-end
-add-end c = search rules
-
-sub-same-name : tie.Need-overflow-sub-same-name
-sub-same-name c = search rules
-
-part-same-name-start : tie.Need-slice-bounds-same-name-start
-part-same-name-start c = search rules
-
-part-same-name-end : tie.Need-slice-bounds-same-name-end
-part-same-name-end c = search rules
 
 same-name-requires : tie.Need-same-name-requires
-same-name-requires c κs = search rules
+same-name-requires c κs =
+    (omega arith, omega arith)
 
 returns : tie.Need-returns
 returns c =
-    let entry = c.before.before.before.before in
-    c.same_name.ensures ∙ ap (λ (part : List ℕ). same_bytes part entry.args.name.now)
-    (part_is_name entry.args.sheet.now entry.args.e entry.requires)
+    rw c.before.if1.true c.same_name.ensures
+
+returns-2 : tie.Need-returns-2
+returns-2 c =
+    let entry = c.before.before in
+    sym (other_length_name entry.args.sheet.now entry.args.e entry.args.start entry.args.len c.if1.false)
 
 pub has_name_spec : {M : Type 1} → statement M
-has_name_spec =
-    tie.close (tie.spec add-end sub-same-name part-same-name-start part-same-name-end same-name-requires returns)
+has_name_spec = tie.close (tie.spec same-name-requires returns returns-2)

@@ -1,33 +1,30 @@
 use borrow.Author.Rules.{rules}
-use Rattle.sheetwords.proofs.fill.Statement.{statement}
-use Rattle.sheetwords.proofs.fill.Tie as tie
 use mathlib.Core.Path.{◌≡◌, refl, ◌∙◌}
 use Prim.Native.Nat.{◌+◌, ◌-◌}
-use lib.ListN.{length, take}
+use lib.ListN.{length}
 use Rattle.sheetwords.specs.Sheets.{sheet_from}
 use Rattle.literals.specs.Literals.{nothing}
-use Rattle.names.specs.NameIndex.{NameIndex}
-use Rattle.names.proofs.Indexing.{nothing_indexed}
 use Rattle.sheetwords.proofs.Filling.{Filling, starts}
 use Rattle.sheetwords.proofs.Turns.{name_fits, ends, stops, faults, goes_on, falls}
+use Rattle.sheetwords.proofs.fill.Statement.{statement}
+use Rattle.sheetwords.proofs.fill.Tie as tie
 
 abbrev invariant-loop : tie.invariant-loop
-invariant-loop sheet words₀ names₀ heads₀ index₀ counts₀ place₀ words names heads index counts place =
-    Filling sheet (sheet_from (length sheet + 1) sheet 0 nothing) place counts words names heads × (length words ≡ length words₀) ×
-    (length names ≡ length names₀) × NameIndex sheet (take counts.atoms names) index
+invariant-loop sheet words₀ names₀ heads₀ counts₀ place₀ words names heads counts place =
+    Filling sheet (sheet_from (length sheet + 1) sheet 0 nothing) place counts words names heads
+    × (length words ≡ length words₀) × (length names ≡ length names₀)
 
 abbrev decreases-loop : tie.decreases-loop
-decreases-loop sheet words₀ names₀ heads₀ index₀ counts₀ place₀ words names heads index counts place =
+decreases-loop sheet words₀ names₀ heads₀ counts₀ place₀ words names heads counts place =
     length sheet - place
 
 loop-holds : tie.Need-loop-init invariant-loop decreases-loop
 loop-holds c =
     let entry = c.before.before.before in (
-      starts entry.args.sheet.now _ entry.args.words.now entry.args.names.now _ refl entry.requires.0 entry.requires.1.0
-          entry.requires.1.1.0 entry.requires.1.1.1 refl,
+      starts entry.args.sheet.now _ entry.args.words.now entry.args.names.now _ refl
+          entry.requires.0 entry.requires.1.0 entry.requires.1.1.0 entry.requires.1.1.1 refl,
       refl,
       refl,
-      nothing_indexed entry.args.sheet.now,
     )
 
 next-at-requires : tie.Need-next-at-requires invariant-loop decreases-loop
@@ -38,41 +35,36 @@ enum_told c = search rules
 
 same_length : tie.Need-same-length invariant-loop decreases-loop
 same_length c =
-    let at-loop = c.before.before.before.loop in
-    at-loop.invariant.1
+    c.before.before.before.loop.invariant.1
 
 same-length-2 : tie.Need-same-length-2 invariant-loop decreases-loop
 same-length-2 c =
-    let at-loop = c.before.before.before.loop in
-    at-loop.invariant.2
+    c.before.before.before.loop.invariant.2
 
 returns : tie.Need-returns invariant-loop decreases-loop
 returns c =
     let entry = c.before.before.before.before.before.before.before in
     let at-loop = c.before.before.before.loop in
-    ends entry.args.sheet.now _ at-loop.place at-loop.counts at-loop.words at-loop.names at-loop.heads
-    at-loop.invariant.0 _ c.before.before.next-at.ensures c.enum_told.given.1
+    ends entry.args.sheet.now _ at-loop.place at-loop.counts at-loop.words at-loop.names at-loop.heads at-loop.invariant.0 _
+    c.before.before.next-at.ensures c.enum_told.given.1
 
 enum-known-reading : tie.Need-enum-known-reading invariant-loop decreases-loop
 enum-known-reading c = search rules
 
 same-length-3 : tie.Need-same-length-3 invariant-loop decreases-loop
 same-length-3 c =
-    let at-loop = c.before.before.before.before.loop in
-    at-loop.invariant.1
+    c.before.before.before.before.loop.invariant.1
 
 same-length-4 : tie.Need-same-length-4 invariant-loop decreases-loop
 same-length-4 c =
-    let at-loop = c.before.before.before.before.loop in
-    at-loop.invariant.2
+    c.before.before.before.before.loop.invariant.2
 
 returns-2 : tie.Need-returns-2 invariant-loop decreases-loop
 returns-2 c =
     let entry = c.before.before.before.before.before.before.before.before in
     let at-loop = c.before.before.before.before.loop in
-    let at-next-at = c.before.before.before.next-at in
-    stops entry.args.sheet.now _ at-loop.place at-loop.counts at-loop.words at-loop.names at-loop.heads
-    at-loop.invariant.0 _ at-next-at.ensures _ c.before.reading.given.1
+    stops entry.args.sheet.now _ at-loop.place at-loop.counts at-loop.words at-loop.names at-loop.heads at-loop.invariant.0 _
+    c.before.before.before.next-at.ensures _ c.before.reading.given.1
 
 enum-known-reading-2 : tie.Need-enum-known-reading-2 invariant-loop decreases-loop
 enum-known-reading-2 c = search rules
@@ -80,17 +72,13 @@ enum-known-reading-2 c = search rules
 slice-aggregate-take-literal : tie.Need-slice-aggregate-take-literal invariant-loop decreases-loop
 slice-aggregate-take-literal c = search rules
 
-slice-aggregate-take-literal-2 : tie.Need-slice-aggregate-take-literal-2 invariant-loop decreases-loop
-slice-aggregate-take-literal-2 c = search rules
-
 take-literal-requires : tie.Need-take-literal-requires invariant-loop decreases-loop
 take-literal-requires c κs =
-    let entry = c.before.before.before.before.before.before.before.before.before.before.before.before in
-    let at-loop = c.before.before.before.before.before.before.before.before.loop in
-    let at-next-at = c.before.before.before.before.before.before.before.next-at in
-    let at-reading2 = c.before.before.before.before.before.reading2 in
-    let fits = name_fits entry.args.sheet.now at-loop.place _ _ at-next-at.ensures at-reading2.given.1 in
-    (at-loop.invariant.0.kept.room, (fits.0, (fits.1, (fits.2, at-loop.invariant.3))))
+    let entry = c.before.before.before.before.before.before.before.before.before.before.before in
+    let at-loop = c.before.before.before.before.before.before.before.loop in
+    let at-next-at = c.before.before.before.before.before.before.next-at in
+    let at-reading2 = c.before.before.before.before.reading2 in
+    (at-loop.invariant.0.kept.room, name_fits entry.args.sheet.now at-loop.place _ _ at-next-at.ensures at-reading2.given.1)
 
 enum-known-taken : tie.Need-enum-known-taken invariant-loop decreases-loop
 enum-known-taken c = search rules
@@ -101,63 +89,54 @@ enum-known-taken-2 c = search rules
 same-length-5 : tie.Need-same-length-5 invariant-loop decreases-loop
 same-length-5 c =
     let at-loop =
-    c.before.before.before.before.before.before.before.before.before.before.before.before.before.before.before.before.before.before.loop in
-    let at-take-literal = c.before.before.before.before.before.before.before.before.before.take-literal in
+    c.before.before.before.before.before.before.before.before.before.before.before.before.before.before.before.before.loop in
+    let at-take-literal = c.before.before.before.before.before.before.before.before.take-literal in
     at-take-literal.auto.1.0 ∙ at-loop.inv.1
 
 same-length-6 : tie.Need-same-length-6 invariant-loop decreases-loop
 same-length-6 c =
     let at-loop =
-    c.before.before.before.before.before.before.before.before.before.before.before.before.before.before.before.before.before.before.loop in
-    let at-take-literal = c.before.before.before.before.before.before.before.before.before.take-literal in
+    c.before.before.before.before.before.before.before.before.before.before.before.before.before.before.before.before.loop in
+    let at-take-literal = c.before.before.before.before.before.before.before.before.take-literal in
     at-take-literal.auto.1.1.0 ∙ at-loop.inv.2
 
 returns-3 : tie.Need-returns-3 invariant-loop decreases-loop
 returns-3 c =
-    let entry =
-    c.before.before.before.before.before.before.before.before.before.before.before.before.before.before.before.before.before.before.before.before.before.before in
+    let entry = c.before.before.before.before.before.before.before.before.before.before.before.before.before.before.before.before.before.before.before.before in
     let at-loop =
-    c.before.before.before.before.before.before.before.before.before.before.before.before.before.before.before.before.before.before.loop in
+    c.before.before.before.before.before.before.before.before.before.before.before.before.before.before.before.before.loop in
     let at-next-at =
-    c.before.before.before.before.before.before.before.before.before.before.before.before.before.before.before.before.before.next-at in
-    let at-reading2 =
-    c.before.before.before.before.before.before.before.before.before.before.before.before.before.before.before.reading2 in
-    let at-take-literal = c.before.before.before.before.before.before.before.before.before.take-literal in
-    faults entry.args.sheet.now _ at-loop.place at-loop.counts at-loop.words at-loop.names at-loop.heads
-    at-loop.inv.0 _ at-next-at.ensures _ at-reading2.given.1 _ _ _ _ at-take-literal.ensures.0 _
-    c.before.taken2.given.1
+    c.before.before.before.before.before.before.before.before.before.before.before.before.before.before.before.next-at in
+    let at-reading2 = c.before.before.before.before.before.before.before.before.before.before.before.before.before.reading2 in
+    let at-take-literal = c.before.before.before.before.before.before.before.before.take-literal in
+    faults entry.args.sheet.now _ at-loop.place at-loop.counts at-loop.words at-loop.names at-loop.heads at-loop.inv.0 _
+    at-next-at.ensures _ at-reading2.given.1 _ _ _ _ at-take-literal.ensures _ c.before.taken2.given.1
 
 loop-less : tie.Need-loop-smaller invariant-loop decreases-loop
 loop-less c =
-    let entry =
-    c.before.before.before.before.before.before.before.before.before.before.before.before.before.before.before.before.before.before.before.before.before.before in
+    let entry = c.before.before.before.before.before.before.before.before.before.before.before.before.before.before.before.before.before.before.before.before in
     let at-loop =
-    c.before.before.before.before.before.before.before.before.before.before.before.before.before.before.before.before.before.before.loop in
+    c.before.before.before.before.before.before.before.before.before.before.before.before.before.before.before.before.loop in
     let at-next-at =
-    c.before.before.before.before.before.before.before.before.before.before.before.before.before.before.before.before.before.next-at in
-    let at-reading2 =
-    c.before.before.before.before.before.before.before.before.before.before.before.before.before.before.before.reading2 in
-    let at-take-literal = c.before.before.before.before.before.before.before.before.before.take-literal in
-    falls entry.args.sheet.now _ at-loop.place at-loop.counts at-loop.words at-loop.names at-loop.heads
-    at-loop.inv.0 _ at-next-at.ensures _ at-reading2.given.1 _ _ _ _ at-take-literal.ensures.0
+    c.before.before.before.before.before.before.before.before.before.before.before.before.before.before.before.next-at in
+    let at-reading2 = c.before.before.before.before.before.before.before.before.before.before.before.before.before.reading2 in
+    let at-take-literal = c.before.before.before.before.before.before.before.before.take-literal in
+    falls entry.args.sheet.now _ at-loop.place at-loop.counts at-loop.words at-loop.names at-loop.heads at-loop.inv.0 _
+    at-next-at.ensures _ at-reading2.given.1 _ _ _ _ at-take-literal.ensures
 
 loop-again : tie.Need-loop-preserved invariant-loop decreases-loop
 loop-again c =
-    let entry =
-    c.before.before.before.before.before.before.before.before.before.before.before.before.before.before.before.before.before.before.before.before.before.before in
+    let entry = c.before.before.before.before.before.before.before.before.before.before.before.before.before.before.before.before.before.before.before.before in
     let at-loop =
-    c.before.before.before.before.before.before.before.before.before.before.before.before.before.before.before.before.before.before.loop in
+    c.before.before.before.before.before.before.before.before.before.before.before.before.before.before.before.before.loop in
     let at-next-at =
-    c.before.before.before.before.before.before.before.before.before.before.before.before.before.before.before.before.before.next-at in
-    let at-reading2 =
-    c.before.before.before.before.before.before.before.before.before.before.before.before.before.before.before.reading2 in
-    let at-take-literal = c.before.before.before.before.before.before.before.before.before.take-literal in (
-      goes_on entry.args.sheet.now _ at-loop.place at-loop.counts at-loop.words at-loop.names at-loop.heads
-          at-loop.inv.0 _ at-next-at.ensures _ at-reading2.given.1 _ _ _ _ at-take-literal.ensures.0 _
-          c.before.taken.given.1,
+    c.before.before.before.before.before.before.before.before.before.before.before.before.before.before.before.next-at in
+    let at-reading2 = c.before.before.before.before.before.before.before.before.before.before.before.before.before.reading2 in
+    let at-take-literal = c.before.before.before.before.before.before.before.before.take-literal in (
+      goes_on entry.args.sheet.now _ at-loop.place at-loop.counts at-loop.words at-loop.names at-loop.heads at-loop.inv.0 _
+          at-next-at.ensures _ at-reading2.given.1 _ _ _ _ at-take-literal.ensures _ c.before.taken.given.1,
       at-take-literal.auto.1.0 ∙ at-loop.inv.1,
       at-take-literal.auto.1.1.0 ∙ at-loop.inv.2,
-      at-take-literal.ensures.1 _ c.before.taken.given.1,
     )
 
 pub fill_spec : {M : Type 1} → statement M
@@ -178,7 +157,6 @@ fill_spec =
     returns-2
     enum-known-reading-2
     slice-aggregate-take-literal
-    slice-aggregate-take-literal-2
     take-literal-requires
     enum-known-taken
     enum-known-taken-2

@@ -1,0 +1,17 @@
+use mathlib.Core.Path.{◌≡◌, refl, ap, ◌∙◌}
+use Prim.Native.Nat.{ℕ, ◌*◌, ◌-◌, ◌≤◌, zero-le}
+use native.Mathlib.Omega.{arith}
+use lib.Count.{ones, ones-le}
+use lib.ListN.{get_or}
+use borrow.Author.Rules.{rules}
+use Rattle.sets.specs.Sets.{count}
+use Rattle.sets.proofs.Counting.{count≤}
+use Rattle.bits.specs.Sets.{member}
+use Rattle.bits.proofs.Laws.{count_turn}
+use Rattle.bits.proofs.count.Given as goal
+
+abbrev pub invariant-loop-w : goal.invariant-loop-w
+invariant-loop-w l = (l.w ≤ 8) × (l.n ≡ count (64 * l.w) (member l.set))
+
+abbrev pub decreases-loop-w : goal.decreases-loop-w
+decreases-loop-w l = 8 - l.w

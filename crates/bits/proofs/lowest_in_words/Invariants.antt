@@ -1,0 +1,16 @@
+use mathlib.Core.Path.{◌≡◌, sym, ◌∙◌}
+use mathlib.Core.Bool.{false}
+use Prim.Native.Nat.{ℕ, ◌*◌, ◌-◌, ◌≤◌, ◌<◌}
+use native.Mathlib.Omega.{arith}
+use lib.Count.{trailing_le}
+use borrow.Author.Rules.{rules}
+use Rattle.bits.specs.Sets.{member}
+use Rattle.bits.proofs.Least.{lowest_from_nothing}
+use Rattle.bits.proofs.Laws.{none_in_zero, lowest_turn}
+use Rattle.bits.proofs.lowest_in_words.Given as goal
+
+abbrev pub invariant-loop-w : goal.invariant-loop-w
+invariant-loop-w l = (l.first ≤ l.w) × (l.w ≤ 16) × ((j : ℕ) → 64 * l.first ≤ j → j < 64 * l.w → member l.set j ≡ false)
+
+abbrev pub decreases-loop-w : goal.decreases-loop-w
+decreases-loop-w l = 16 - l.w

@@ -1,0 +1,7 @@
+use mathlib.Core.Path.{ap}
+use borrow.Author.Rules.{rules}
+use Rattle.refusal.specs.declared.Numbered.TheVariants.{Refused}
+use Rattle.truth.proofs.refused.Goals as goal
+
+pub returns : goal.returns
+returns c = ap Refused c.at.ensures
