@@ -105,13 +105,25 @@ pub apart_behind : (l : List ℕ) {xs ys : List ℕ} → FirstApart xs ys 0 → 
 apart_behind [] f = f
 apart_behind (x ∷ l) f = further (apart_behind l f)
 
+-- apart behind a number that both begin with
+apart_further : {x : ℕ} {xs ys us vs : List ℕ} {m : ℕ} → FirstApart us vs m → us ≡ x ∷ xs → vs ≡ x ∷ ys
+    → (n : ℕ) × (m ≡ suc n) × FirstApart xs ys n
+apart_further (out_of_order f) e e' = absurd (f (head-eq_of_cons-eq e ∙ sym (head-eq_of_cons-eq e')))
+apart_further missing e e' = absurd (cons≢nil (sym e'))
+apart_further surplus e e' = absurd (cons≢nil (sym e))
+apart_further {xs = xs} {ys = ys} (further {xs = us} {n = n} b) e e' = (
+  n,
+  refl,
+  subst (λ (z : List ℕ). FirstApart z ys n) (tail-eq_of_cons-eq e)
+      (subst (λ (z : List ℕ). FirstApart us z n) (tail-eq_of_cons-eq e') b),
+)
+
 pub apart_determined : {xs ys : List ℕ} {n m : ℕ} → FirstApart xs ys n → FirstApart xs ys m → n ≡ m
 apart_determined (out_of_order f) (out_of_order g) = refl
 apart_determined (out_of_order f) (further b) = absurd (f refl)
 apart_determined missing missing = refl
 apart_determined surplus surplus = refl
-apart_determined (further a) (out_of_order g) = absurd (g refl)
-apart_determined (further a) (further b) = ap suc (apart_determined a b)
+apart_determined (further a) b = let q = apart_further b refl refl in ap suc (apart_determined a q.2) ∙ sym q.1
 
 pub same_not_apart : {xs ys : List ℕ} {n : ℕ} → FirstApart xs ys n → xs ≡ ys → ⊥
 same_not_apart (out_of_order f) e = f (head-eq_of_cons-eq e)
