@@ -229,7 +229,7 @@ pub fn next_at(sheet: &[u8], place: usize) -> Next
 }
 
 // The sheet reader: the sheet, and the place it has reached, where the next literal starts.
-#[derive(Drop)]
+#[derive(Clone, Copy)]
 pub struct Reader<'a> {
     pub sheet: &'a [u8],
     pub place: usize,

@@ -1,6 +1,6 @@
 use mathlib.Core.Path.{◌∙◌}
 use mathlib.Core.Logic.{⊎_elim, inl, inr}
-use borrow.Author.Tests.{le-leb, leb-false}
+use borrow.Author.Tests.{le-leb}
 use borrow.Author.Rules.{rules}
 use Rattle.words.proofs.Steps.{out_of_range_found}
 use Rattle.words.proofs.range_fault.Goals as goal
@@ -9,5 +9,5 @@ pub returns-else-least-w : goal.returns-else-least-w
 returns-else-least-w c =
     let a = c.args in
     c.refused.ensures
-    ∙ ⊎_elim (λ u. out_of_range_found a.least a.most a.at a.w (inr (leb-false a.w a.most u.1)))
+    ∙ ⊎_elim (λ u. out_of_range_found a.least a.most a.at a.w (inr u.1))
     (λ u. out_of_range_found a.least a.most a.at a.w (inl u)) c.else-least-w.either
