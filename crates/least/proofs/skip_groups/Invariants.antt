@@ -1,0 +1,17 @@
+use borrow.Author.Rules.{rules}
+use Prim.Native.Nat.{◌≤◌}
+use native.Mathlib.Omega.{arith}
+use mathlib.Core.Path.{◌≡◌, refl, ◌∙◌}
+use lib.ListN.{length, drop}
+use Rattle.words.specs.RecordAt.{WholeGroups}
+use Rattle.words.specs.Layout.{drop_groups}
+use Rattle.least.proofs.Walk.{group_inside, group_fits, groups_go_on, groups_end}
+use Rattle.least.proofs.skip_groups.Given as goal
+
+abbrev pub invariant-loop-left : goal.invariant-loop-left
+invariant-loop-left l =
+    (l.at ≤ length l.table) × (l.first ≤ l.at) × (WholeGroups l.left (drop l.at l.table)) × (drop_groups l.left (drop l.at l.table) ≡ drop_groups l.m (drop l.first l.table))
+
+abbrev pub decreases-loop-left : goal.decreases-loop-left
+decreases-loop-left l =
+    l.left

@@ -1,0 +1,16 @@
+use borrow.Author.Rules.{rules}
+use mathlib.Core.Path.{◌≡◌, ap, ◌∙◌}
+use Prim.Native.Nat.{◌+◌, ◌-◌, ◌≤◌}
+use native.Mathlib.Omega.{arith}
+use lib.ListN.{length, drop}
+use Rattle.reader.specs.Sheet.{name_run, continues_name}
+use Rattle.reader.proofs.Runs.{run_starts, run_more, run_ended}
+use Rattle.reader.proofs.name_run.Given as goal
+
+abbrev pub invariant-loop-n : goal.invariant-loop-n
+invariant-loop-n l =
+    (l.q + l.n ≤ length l.sheet) × (l.n + name_run (drop (l.q + l.n) l.sheet) ≡ name_run (drop l.q l.sheet))
+
+abbrev pub decreases-loop-n : goal.decreases-loop-n
+decreases-loop-n l =
+    length l.sheet - (l.q + l.n)
