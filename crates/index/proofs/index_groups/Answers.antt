@@ -45,21 +45,12 @@ loop-left-preserved c =
 
 pub returns : goal.returns
 returns c =
-    let whole = (
-      subst (λ (n : ℕ). Cursor c.args.table.now c.loop-left.at c.args.head n) (omega (arith, c.loop-left-test.false)) c.loop-left.invariant.0,
-      (
-        c.loop-left.invariant.1,
-        (
-          done c.args.table.now c.loop-left.left c.loop-left.at (omega (
+    record {
+      cursor = subst (λ (n : ℕ). Cursor c.args.table.now c.loop-left.at c.args.head n) (omega (arith, c.loop-left-test.false)) c.loop-left.invariant.0;
+      indexed = c.loop-left.invariant.1;
+      table_value = done c.args.table.now c.loop-left.left c.loop-left.at (omega (
             arith,
             c.loop-left-test.false,
-          )) ∙ c.loop-left.invariant.2,
-          c.loop-left.invariant.3,
-        ),
-      ),
-    ) in record {
-      cursor = whole.0;
-      indexed = whole.1;
-      table_value = whole.2;
-      lower_bound = whole.3;
+          )) ∙ c.loop-left.invariant.2;
+      lower_bound = c.loop-left.invariant.3;
     }

@@ -20,6 +20,6 @@ pub returns : goal.returns
 returns c =
     record {
       indexed_to = record_turn _ c.requires.0 _ c.requires.1 _ _ c.requires.2 _ _ c.word_inside-head.ensures.value c.word_inside-m.ensures.value _ _ _
-          c.put_fact.ensures c.index_groups.ensures.cursor c.index_groups.ensures.indexed.0 c.index_groups.ensures.indexed.1.0;
-      lower_bound = omega (arith, c.index_groups.ensures.indexed.1.1);
+          c.put_fact.ensures c.index_groups.ensures.cursor c.index_groups.ensures.indexed c.index_groups.ensures.table_value;
+      lower_bound = omega (arith, c.index_groups.ensures.lower_bound);
     }
