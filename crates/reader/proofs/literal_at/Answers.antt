@@ -28,7 +28,7 @@ name_at-requires c =
 pub returns-then-b-eq45 : goal.returns-then-b-eq45
 unfolding literal_at
 returns-then-b-eq45 c =
-    simp (sym c.byte-b.ensures, eq-eqb _ _ c.if-b-eq45.true, c.name_at_lem.ensures)
+    simp (sym c.byte-b.ensures, eq-eqb _ _ c.if-b-eq45.true, c.name_at.ensures)
 
 pub returns-else-b-eq45 : goal.returns-else-b-eq45
 unfolding literal_at

@@ -15,6 +15,16 @@ overflow_add-result-in-Literal c =
     let h = rw c.in-Literal.is at c.requires in
     omega (arith, h)
 
+pub returns-in-End : goal.returns-in-End
+unfolding place_after
+returns-in-End c =
+    search rules
+
+pub returns-in-Refused : goal.returns-in-Refused
+unfolding place_after
+returns-in-Refused c =
+    search rules
+
 pub returns-in-Literal : goal.returns-in-Literal
 unfolding place_after
 returns-in-Literal c =

@@ -6,7 +6,7 @@ use Rattle.reader.proofs.reading_after.Goals as goal
 pub returns-then-before-eq10 : goal.returns-then-before-eq10
 unfolding reading_after
 returns-then-before-eq10 c =
-    simp (eq-eqb _ _ c.if-before-eq10.true, c.line_at_lem.ensures)
+    simp (eq-eqb _ _ c.if-before-eq10.true, c.line_at.ensures)
 
 pub returns-then-before-eq9 : goal.returns-then-before-eq9
 unfolding reading_after
