@@ -1,0 +1,11 @@
+use borrow.Author.Rules.{rules}
+use mathlib.Core.Path.{sym}
+use Rattle.marking.proofs.not_clean.Goals as goal
+
+pub returns-then-has : goal.returns-then-has
+returns-then-has c =
+    rw (sym c.has.ensures, c.if-has.true)
+
+pub returns-else-has : goal.returns-else-has
+returns-else-has c =
+    rw (sym c.has.ensures, c.if-has.false)

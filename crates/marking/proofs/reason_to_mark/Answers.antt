@@ -1,0 +1,17 @@
+use borrow.Author.Rules.{rules}
+use mathlib.Core.Path.{sym, ◌∙◌}
+use mathlib.Core.Bool.{or-false}
+use Rattle.marking.proofs.reason_to_mark.Goals as goal
+
+pub returns-then-has-2 : goal.returns-then-has-2
+returns-then-has-2 c =
+    rw (sym c.has.ensures, c.if-has.true, sym c.has-then-has.ensures, c.if-has-2.true)
+
+pub returns-then-has : goal.returns-then-has
+returns-then-has c =
+    rw (sym c.has.ensures, c.if-has.true, sym c.has-then-has.ensures, c.if-has-2.false)
+    (c.not_clean.ensures ∙ sym (or-false _))
+
+pub returns : goal.returns
+returns c =
+    rw (sym c.has.ensures, c.if-has.false) c.held_not_clean.ensures

@@ -1,0 +1,15 @@
+use borrow.Author.Rules.{rules}
+use mathlib.Core.Path.{◌≡◌, sym, ◌∙◌}
+use Prim.Native.Nat.{◌-◌, ◌≤◌}
+use native.Mathlib.Omega.{arith}
+use Rattle.names.specs.Names.{bytes_at, same_bytes}
+use Rattle.names.proofs.Steps.{rest_same, same_begins, same_on, same_stops, same_ended}
+use Rattle.names.proofs.same_bytes.Given as goal
+
+abbrev pub invariant-loop-i : goal.invariant-loop-i
+invariant-loop-i l =
+    (l.i ≤ l.n) × (rest_same l.sheet l.a l.b l.n l.i ≡ same_bytes (bytes_at l.sheet l.a l.n) (bytes_at l.sheet l.b l.n))
+
+abbrev pub decreases-loop-i : goal.decreases-loop-i
+decreases-loop-i l =
+    l.n - l.i

@@ -1,0 +1,18 @@
+use borrow.Author.Rules.{rules}
+use Prim.Native.Nat.{◌≤◌, ◌-◌}
+use native.Mathlib.Omega.{arith}
+use mathlib.Core.Path.{◌≡◌, refl, ◌∙◌}
+use lib.ListN.{length, length-set}
+use Rattle.bits.specs.Sets.{member}
+use Rattle.paper.specs.Marking.{settled_value}
+use Rattle.values.specs.Values.{written}
+use Rattle.values.proofs.Written.{writes_nothing, writes_one, writes_all}
+use Rattle.values.proofs.write_values.Given as goal
+
+abbrev pub invariant-loop-a : goal.invariant-loop-a
+invariant-loop-a l =
+    (l.a ≤ l.n) × (length l.values ≡ length l.initial.values) × (l.values ≡ written (settled_value (member l.marks) (member l.held)) l.a l.initial.values)
+
+abbrev pub decreases-loop-a : goal.decreases-loop-a
+decreases-loop-a l =
+    l.n - l.a
