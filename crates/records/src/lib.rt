@@ -6,7 +6,7 @@ ghost use Rattle.records.specs.Records.{no_marks_for, with_mark, marks_from, rec
 use refusal::{Checked, Numbered};
 
 // N, 512 marks and their count: atom a is bit a mod 64, lowest first, of word a div 64.
-#[derive(Drop)]
+#[derive(Clone, Copy)]
 pub struct MarkRecord {
     pub n: u64,
     pub marks: [u64; 8],
@@ -14,7 +14,7 @@ pub struct MarkRecord {
 }
 
 // A fresh record, and whether it is one for the N that was asked.
-#[derive(Drop)]
+#[derive(Clone, Copy)]
 pub struct FreshRecord {
     pub answer: Checked,
     pub record: MarkRecord,
