@@ -15,12 +15,12 @@ clean_without-clean-requires c =
 
 pub mark_all-requires : goal.mark_all-requires
 mark_all-requires c =
-    (c.requires.0, c.requires.4.marks_length, c.requires.5.shut_row_lem, c.close.ensures.working.ready_row)
+    (c.requires.0, c.requires.4.marks_length, c.requires.5.shut_row, c.close.ensures.working.ready_row)
 
 pub returns : goal.returns
 returns c =
-    (
-      record {
+    record {
+      round = record {
         held_length = c.close.ensures.working.taken_row;
         held = closed_held (member c.args.marks.now) _ _ _ _ _ _ _
             (member_of_zeros 16) c.requires.4.held c.requires.5.pending c.requires.5.marked c.close.ensures;
@@ -28,8 +28,8 @@ returns c =
             c.clean_without-clean.result;
         clean_is = c.clean_without-clean.ensures (member c.args.marks.now) c.requires.5.pairs;
         over = c.mark_all.ensures.round_over;
-      },
-      standing_on _ _ c.requires.0 _ _ _ _ _ _ _ _ _ _ c.requires.4.marks_length c.requires.5.shut_row_lem c.requires.5.pairs c.close.ensures.working c.close.ensures.none_ready (closed_held (member c.args.marks.now) _ _ _ _ _ _ _
+      };
+      standing = standing_on _ _ c.requires.0 _ _ _ _ _ _ _ _ _ _ c.requires.4.marks_length c.requires.5.shut_row c.requires.5.pairs c.close.ensures.working c.close.ensures.none_ready (closed_held (member c.args.marks.now) _ _ _ _ _ _ _
           (member_of_zeros 16) c.requires.4.held c.requires.5.pending c.requires.5.marked c.close.ensures) c.mark_all.ensures.round_over
-          c.mark_all.ensures.shut_after c.mark_all.ensures.ready_after,
-    )
+          c.mark_all.ensures.shut_after c.mark_all.ensures.ready_after;
+    }

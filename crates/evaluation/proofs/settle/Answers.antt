@@ -43,7 +43,7 @@ pub slice_bounds-round-end : goal.slice_bounds-round-end
 slice_bounds-round-end c = sym c.loop-again.invariant.0.begun.marks_length
 
 pub slice_bounds-round-end-in-loop-again : goal.slice_bounds-round-end-in-loop-again
-slice_bounds-round-end-in-loop-again c = sym c.loop-again.invariant.1.shut_row_lem
+slice_bounds-round-end-in-loop-again c = sym c.loop-again.invariant.1.shut_row
 
 pub slice_bounds-round-end-in-loop-again-2 : goal.slice_bounds-round-end-in-loop-again-2
 slice_bounds-round-end-in-loop-again-2 c = sym c.loop-again.invariant.0.begun.held_length

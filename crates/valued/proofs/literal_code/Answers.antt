@@ -11,11 +11,11 @@ code_inside-v-requires c =
 
 pub returns-then-l-eq0 : goal.returns-then-l-eq0
 returns-then-l-eq0 c =
-    c.code-Inside.ensures ∙ sym (even_given c.args.n c.args.values.now c.args.l c.requires.1
+    c.code_inside-v.ensures ∙ sym (even_given c.args.n c.args.values.now c.args.l c.requires.1
     (c.requires.0.at_most_3 _ (omega (arith, c.requires.1))) c.if-l-eq0.true)
 
 pub returns : goal.returns
 returns c =
-    c.negated_code.ensures ∙ ap negated_code c.code-Inside.ensures ∙ sym
+    c.negated_code.ensures ∙ ap negated_code c.code_inside-v.ensures ∙ sym
     (odd_given c.args.n c.args.values.now c.args.l
     c.requires.1 (c.requires.0.at_most_3 _ (omega (arith, c.requires.1))) c.if-l-eq0.false)
