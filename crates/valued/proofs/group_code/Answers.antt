@@ -30,7 +30,6 @@ literal_code-requires c =
 
 pub loop-i-preserved : goal.loop-i-preserved
 loop-i-preserved c =
-    let c.loop-i = c.loop-i in
     (
       omega arith,
       omega (arith, c.smaller-low.ensures, c.loop-i.invariant.1),

@@ -37,7 +37,6 @@ group_code-requires c =
 
 pub overflow_add-at : goal.overflow_add-at
 overflow_add-at c =
-    let c.loop-left = c.loop-left in
     omega (
       arith,
       group_fits c.args.table.now c.loop-left.at c.loop-left.left _ c.loop-left.invariant.2 c.loop-left-test.true
@@ -46,7 +45,6 @@ overflow_add-at c =
 
 pub loop-left-preserved : goal.loop-left-preserved
 loop-left-preserved c =
-    let c.loop-left = c.loop-left in
     let q = groups_go_on c.args.table.now c.loop-left.at c.loop-left.left c.word_inside-k.result c.loop-left.invariant.2
     c.loop-left-test.true c.word_inside-k.ensures.value in (
       q.inside,

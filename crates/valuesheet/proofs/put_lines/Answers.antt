@@ -32,7 +32,7 @@ loop-a-preserved c =
     (
       omega arith,
       omega (arith, c.line_bytes-at.ensures.upper_bound),
-      c.put_line.auto.1.1.1.0 ∙ c.loop-a.invariant.2,
+      c.put_line.auto.text ∙ c.loop-a.invariant.2,
       bytes_turn c.args.names.now c.args.n c.loop-a.a c.requires.n_in_bounds
           c.loop-a-test.true _ c.entry-e.ensures.value c.loop-a.at _ _ c.line_bytes-at.ensures.value c.loop-a.invariant.3,
       lines_turn c.args.names.now c.args.n c.loop-a.a c.requires.n_in_bounds c.loop-a-test.true _
