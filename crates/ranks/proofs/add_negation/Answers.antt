@@ -24,7 +24,7 @@ add_line-requires c =
 pub returns : goal.returns
 returns c =
     let args = c.args in
-    let added = c.add_line.ensures in record {
+    let added = (c.add_line.ensures.result_after, c.add_line.ensures.counted) in record {
       result_after = negation_gets_line (found args.ranked.now args.lines.now args.rank) args.head args.group
           c.has.ensures c.if-has.false added.0;
       counted = added.1;

@@ -45,51 +45,35 @@ returns-in-Refused c =
 
 pub take_literal-taken-requires : goal.take_literal-taken-requires
 take_literal-taken-requires c =
-    let whole = (c.loop-r.invariant.0.kept.room, name_fits c.args.sheet.now c.loop-r.place _ _ c.next_at-next.ensures c.in-Literal.is) in record {
-      room = whole.0;
-      start_le_most_sheet_bytes = whole.1.0;
-      len_le_most_name_bytes = whole.1.1;
+    let rest = name_fits c.args.sheet.now c.loop-r.place _ _ c.next_at-next.ensures c.in-Literal.is in record {
+      room = c.loop-r.invariant.0.kept.room;
+      start_le_most_sheet_bytes = rest.0;
+      len_le_most_name_bytes = rest.1;
     }
 
 pub shape_of-words-in-Off : goal.shape_of-words-in-Off
 shape_of-words-in-Off c =
-    let at-loop =
-    c.loop-r in
-    c.take_literal-taken.auto.1.0 ∙ at-loop.inv.1
+    c.take_literal-taken.auto.words ∙ c.loop-r.invariant.1
 
 pub shape_of-names-in-Off : goal.shape_of-names-in-Off
 shape_of-names-in-Off c =
-    let at-loop =
-    c.loop-r in
-    c.take_literal-taken.auto.1.1.0 ∙ at-loop.inv.2
+    c.take_literal-taken.auto.names ∙ c.loop-r.invariant.2
 
 pub returns-in-Off : goal.returns-in-Off
 returns-in-Off c =
-    let at-loop =
-    c.loop-r in
-    let at-next-at =
-    c.next_at-next in
-    faults c.args.sheet.now _ at-loop.place at-loop.counts at-loop.words at-loop.names at-loop.heads at-loop.inv.0 _
-    at-next-at.ensures _ c.in-Literal.is _ _ _ _ c.take_literal-taken.ensures _ c.in-Off.is
+    faults c.args.sheet.now _ c.loop-r.place c.loop-r.counts c.loop-r.words c.loop-r.names c.loop-r.heads c.loop-r.invariant.0 _
+    c.next_at-next.ensures _ c.in-Literal.is _ _ _ _ c.take_literal-taken.ensures _ c.in-Off.is
 
 pub loop-r-smaller : goal.loop-r-smaller
 loop-r-smaller c =
-    let at-loop =
-    c.loop-r in
-    let at-next-at =
-    c.next_at-next in
-    falls c.args.sheet.now _ at-loop.place at-loop.counts at-loop.words at-loop.names at-loop.heads at-loop.inv.0 _
-    at-next-at.ensures _ c.in-Literal.is _ _ _ _ c.take_literal-taken.ensures
+    falls c.args.sheet.now _ c.loop-r.place c.loop-r.counts c.loop-r.words c.loop-r.names c.loop-r.heads c.loop-r.invariant.0 _
+    c.next_at-next.ensures _ c.in-Literal.is _ _ _ _ c.take_literal-taken.ensures
 
 pub loop-r-preserved : goal.loop-r-preserved
 loop-r-preserved c =
-    let at-loop =
-    c.loop-r in
-    let at-next-at =
-    c.next_at-next in
     (
-      goes_on c.args.sheet.now _ at-loop.place at-loop.counts at-loop.words at-loop.names at-loop.heads at-loop.inv.0 _
-          at-next-at.ensures _ c.in-Literal.is _ _ _ _ c.take_literal-taken.ensures _ c.in-On.is,
-      c.take_literal-taken.auto.1.0 ∙ at-loop.inv.1,
-      c.take_literal-taken.auto.1.1.0 ∙ at-loop.inv.2,
+      goes_on c.args.sheet.now _ c.loop-r.place c.loop-r.counts c.loop-r.words c.loop-r.names c.loop-r.heads c.loop-r.invariant.0 _
+          c.next_at-next.ensures _ c.in-Literal.is _ _ _ _ c.take_literal-taken.ensures _ c.in-On.is,
+      c.take_literal-taken.auto.words ∙ c.loop-r.invariant.1,
+      c.take_literal-taken.auto.names ∙ c.loop-r.invariant.2,
     )

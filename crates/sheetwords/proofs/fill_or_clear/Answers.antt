@@ -8,10 +8,10 @@ use Rattle.sheetwords.proofs.fill_or_clear.Goals as goal
 
 pub returns-in-Read : goal.returns-in-Read
 returns-in-Read c =
-    filled_stays _ _ _ _ _ _ _ _ c.fill-filled.ensures c.in-Read.is c.fill-filled.auto.1.0 c.fill-filled.auto.1.1.0
+    filled_stays _ _ _ _ _ _ _ _ c.fill-filled.ensures c.in-Read.is c.fill-filled.auto.words c.fill-filled.auto.names
 
 pub returns-in-Refused : goal.returns-in-Refused
 returns-in-Refused c =
     nothing_stays _ _ _ _ _ _ _ _ _
-    c.fill-filled.ensures c.in-Refused.is (c.clear_words.ensures ∙ ap (λ (n : ℕ). padded n []) c.fill-filled.auto.1.0)
-    (c.clear_names.ensures ∙ ap (λ (n : ℕ). padded n []) c.fill-filled.auto.1.1.0)
+    c.fill-filled.ensures c.in-Refused.is (c.clear_words.ensures ∙ ap (λ (n : ℕ). padded n []) c.fill-filled.auto.words)
+    (c.clear_names.ensures ∙ ap (λ (n : ℕ). padded n []) c.fill-filled.auto.names)

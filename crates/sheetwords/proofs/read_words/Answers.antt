@@ -15,27 +15,23 @@ returns-then-sheet-gt-MOST_SHEET_BYTES c =
 pub returns-then-words-lt-MOST_WORDS : goal.returns-then-words-lt-MOST_WORDS
 returns-then-words-lt-MOST_WORDS c =
     rw c.at-then-words-lt-MOST_WORDS.ensures (short_words c.args.sheet.now _ _ _ _ c.if-sheet-gt-MOST_SHEET_BYTES.false
-    (omega (arith, c.if-words-lt-MOST_WORDS.true, c.clear_words.auto.0)) c.clear_words.ensures c.clear_names.ensures)
+    (omega (arith, c.if-words-lt-MOST_WORDS.true, c.clear_words.auto.words)) c.clear_words.ensures c.clear_names.ensures)
 
 pub returns-then-names-lt-MOST_ATOMS : goal.returns-then-names-lt-MOST_ATOMS
 returns-then-names-lt-MOST_ATOMS c =
     rw c.at-then-names-lt-MOST_ATOMS.ensures (short_names c.args.sheet.now _ _ _ _ c.if-sheet-gt-MOST_SHEET_BYTES.false
-    (omega (arith, c.if-names-lt-MOST_ATOMS.true, c.clear_names.auto.0)) c.clear_words.ensures c.clear_names.ensures)
+    (omega (arith, c.if-names-lt-MOST_ATOMS.true, c.clear_names.auto.names)) c.clear_words.ensures c.clear_names.ensures)
 
 pub fill_or_clear-requires : goal.fill_or_clear-requires
 fill_or_clear-requires c =
     record {
       most_words_in_bounds = c.if-words-lt-MOST_WORDS.false;
       most_atoms_in_bounds = c.if-names-lt-MOST_ATOMS.false;
-      words_value = c.clear_words.ensures ∙ ap (λ (n : ℕ). padded n []) (sym c.clear_words.auto.0);
-      names_value = c.clear_names.ensures ∙ ap (λ (n : ℕ). padded n []) (sym c.clear_names.auto.0);
+      words_value = c.clear_words.ensures ∙ ap (λ (n : ℕ). padded n []) (sym c.clear_words.auto.words);
+      names_value = c.clear_names.ensures ∙ ap (λ (n : ℕ). padded n []) (sym c.clear_names.auto.names);
     }
 
 pub returns : goal.returns
 returns c =
-    let at-clear-words =
-    c.clear_words in
-    let at-clear-names =
-    c.clear_names in
     read_on c.args.sheet.now _ _ _ _ _ _ _
-    at-clear-words.kept.0 at-clear-names.kept.0 c.if-sheet-gt-MOST_SHEET_BYTES.false c.if-words-lt-MOST_WORDS.false c.if-names-lt-MOST_ATOMS.false c.fill_or_clear.ensures
+    c.clear_words.auto.words c.clear_names.auto.names c.if-sheet-gt-MOST_SHEET_BYTES.false c.if-words-lt-MOST_WORDS.false c.if-names-lt-MOST_ATOMS.false c.fill_or_clear.ensures
