@@ -21,8 +21,7 @@ overflow_add-result c =
 
 pub returns : goal.returns
 returns c =
-    let pre = c.requires in
     let rank = c.args.rank in record {
       result_after = ap₂ (λ (s ls : List ℕ). found s ls (rank + 1)) c.take.ensures.taken_after c.put_line.ensures;
-      counted = counted_one _ _ pre.0.fit.row pre.0.literal c.take.ensures.taken_after pre.1.row c.take.ensures.taken;
+      counted = counted_one _ _ c.requires.0.fit.row c.requires.0.literal c.take.ensures.taken_after c.requires.1.row c.take.ensures.taken;
     }

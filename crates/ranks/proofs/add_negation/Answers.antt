@@ -15,17 +15,16 @@ returns-then-has c =
 pub add_line-requires : goal.add_line-requires
 add_line-requires c =
     let args = c.args in
-    let pre = c.requires in (
+    (
       negation_addable (found args.ranked.now args.lines.now args.rank) args.head args.group
-          c.has.ensures c.if-has.false pre.0 pre.1 pre.2,
-      pre.3,
+          c.has.ensures c.if-has.false c.requires.0 c.requires.1 c.requires.2,
+      c.requires.3,
     )
 
 pub returns : goal.returns
 returns c =
-    let args = c.args in
-    let added = (c.add_line.ensures.result_after, c.add_line.ensures.counted) in record {
+    let args = c.args in record {
       result_after = negation_gets_line (found args.ranked.now args.lines.now args.rank) args.head args.group
-          c.has.ensures c.if-has.false added.0;
-      counted = added.1;
+          c.has.ensures c.if-has.false c.add_line.ensures.result_after;
+      counted = c.add_line.ensures.counted;
     }
