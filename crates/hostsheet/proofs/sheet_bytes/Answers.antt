@@ -29,7 +29,7 @@ pub returns : goal.returns
 returns c =
     host_answers c.args.sheet.now c.args.words.now c.args.names.now c.args.text.now c.room_for-w.result
     c.room_for-n.result _ _ 8192 512 c.read_sheet-r.result c.read_sheet-r.new.words c.read_sheet-r.new.names
-    c.read_sheet-r.new.text c.answer.result c.put_words.new.words c.put_names.new.names
+    c.read_sheet-r.new.text c.answer.result c.put_words.new.bytes c.put_names.new.bytes
     c.room_for-w.ensures.value c.room_for-n.ensures.value (sym (length_lent 8192 c.room_for-w.result c.room_for-w.ensures.upper_bound))
     (sym (length_lent 512 c.room_for-n.result c.room_for-n.ensures.upper_bound))
     c.read_sheet-r.ensures c.put_words.ensures c.put_names.ensures c.answer.ensures
