@@ -1,1 +1,3 @@
+#![tactic(auto)]
+
 // The three demands about the public entries: no code, only what proofs/ shows of their promises.

@@ -1,3 +1,5 @@
+#![tactic(auto)]
+
 ghost use Rattle.std.specs.Prelude.{◌&&◌, ◌≡◌, ◌+◌, ◌*◌, ◌≤◌, ◌<◌, ◌^◌, eqb, length, take, drop};
 ghost use Rattle.paper.specs.Fires.{wholly, no_groups};
 ghost use Rattle.paper.specs.Rules.{negation};

@@ -1,3 +1,5 @@
+#![tactic(auto)]
+
 ghost use Rattle.std.specs.Prelude.{◌≡◌, ◌<◌};
 ghost use Rattle.hostreasons.specs.CheckBytes.{readable_place, packed_check, HostCheck};
 ghost use Rattle.hostreasons.specs.ReasonBytes.{packed_number, HostReasons};

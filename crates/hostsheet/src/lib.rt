@@ -1,3 +1,5 @@
+#![tactic(auto)]
+
 ghost use Rattle.std.specs.Prelude.{◌≡◌, ◌+◌, ◌/◌, ◌%◌, ◌<◌, ◌≤◌, length, set};
 ghost use Rattle.hostsheet.specs.Rooms.{sized, room_for, HasRoom};
 ghost use Rattle.hostsheet.specs.SheetBytes.{words_over, names_over, packed_answer, HostSheet};

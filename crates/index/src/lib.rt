@@ -1,3 +1,5 @@
+#![tactic(auto)]
+
 ghost use Rattle.std.specs.Prelude.{◌≡◌, ◌+◌, ◌≤◌, ◌<◌, suc, length, get_or, set, drop, replicate};
 ghost use Rattle.limits.specs.Limits.{most_codes, most_words};
 ghost use Rattle.words.specs.Layout.{literals_at, drop_groups};

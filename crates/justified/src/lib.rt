@@ -1,1 +1,3 @@
+#![tactic(auto)]
+
 // When a line of a reason sheet is justified: no code, only what proofs speak of.

@@ -1,3 +1,5 @@
+#![tactic(auto)]
+
 ghost use Rattle.std.specs.Prelude.{◌≡◌, ◌+◌, ◌≤◌, length, take, drop};
 ghost use Rattle.bits.specs.Sets.{member};
 ghost use Rattle.paper.specs.Fires.{wholly};

@@ -1,3 +1,5 @@
+#![tactic(auto)]
+
 // The limits of documents 01 and 02, as code writes them, by the names of specs/Limits.antt.
 pub const MOST_ATOMS: usize = 512;
 

@@ -1,3 +1,5 @@
+#![tactic(auto)]
+
 ghost use Rattle.std.specs.Prelude.{◌≡◌, ◌+◌, ◌<◌, ◌≤◌, length, get_or};
 ghost use Rattle.limits.specs.Limits.{most_atoms, most_words, most_in_body, most_name_bytes, most_sheet_bytes};
 ghost use Rattle.bits.specs.Sets.{member};

@@ -1,3 +1,5 @@
+#![tactic(auto)]
+
 ghost use Rattle.std.specs.Prelude.{◌≡◌, not, ◌≤◌, ◌<◌, T, length, ◌↔◌};
 ghost use Rattle.limits.specs.Limits.{most_atoms};
 ghost use Rattle.sets.specs.Some.{some_below};

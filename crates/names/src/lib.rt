@@ -1,3 +1,5 @@
+#![tactic(auto)]
+
 ghost use Rattle.std.specs.Prelude.{◌≡◌, ◌+◌, ◌<◌, ◌≤◌, ◌^◌, length, get_or, take};
 ghost use Rattle.names.specs.Eights.{pair_at, four_at, eight_at};
 ghost use Rattle.names.specs.Names.{bytes_at, name_of, same_bytes, number_in};

@@ -1,3 +1,5 @@
+#![tactic(auto)]
+
 ghost use Rattle.std.specs.Prelude.{◌≡◌, Bool, not, ◌||◌, ◌<◌, T, length, get_or};
 ghost use Rattle.limits.specs.Limits.{most_atoms, most_codes, most_words, most_in_body};
 ghost use Rattle.bits.specs.Sets.{member, put_in};

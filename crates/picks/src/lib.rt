@@ -1,3 +1,5 @@
+#![tactic(auto)]
+
 ghost use Rattle.std.specs.Prelude.{◌≡◌, ◌<◌, length};
 ghost use Rattle.picks.specs.Faults.{atom_fault, pick_fault, settled_fault, report_fault};
 ghost use Rattle.picks.specs.Entries.{PickAllows, SettledAllows, ReportAllows};

@@ -1,4 +1,6 @@
 // The entries for tests, over numbers and lent rows; tests/probe.h says how each answer is packed into one number.
+#![tactic(auto)]
+
 ghost use Rattle.std.specs.Prelude.{◌≡◌, ◌≤◌, length};
 ghost use Rattle.truth.specs.Connectives.{conjunction, disjunction, negated, implied};
 ghost use Rattle.words.specs.Check.{table_check};

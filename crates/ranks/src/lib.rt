@@ -2,6 +2,8 @@
 // First come the heads with unmarked atoms: all of them are t, and so is the group that a line names (conditions 6 and 7).
 // Then come the marked heads. A group of literals found so far, all t, gives the head a line as before. If there is none, no group of the rule
 // is t, and the body is i as soon as all literals of one group have lines: then the rule carries its head, and the head's negation (condition 8).
+#![tactic(auto)]
+
 ghost use Rattle.std.specs.Prelude.{◌≡◌, ◌<◌, length, get_or};
 ghost use Rattle.limits.specs.Limits.{most_codes};
 ghost use Rattle.bits.specs.Sets.{member};

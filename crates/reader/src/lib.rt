@@ -1,3 +1,5 @@
+#![tactic(auto)]
+
 ghost use Rattle.std.specs.Prelude.{◌≡◌, ◌+◌, ◌<◌, ◌≤◌, ◌^◌, length, get_or, drop};
 ghost use Rattle.refusal.specs.Numbers.{refusal};
 ghost use Rattle.reader.specs.Sheet.{starts_name, continues_name, name_run, may_follow, byte_before};

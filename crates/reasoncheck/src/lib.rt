@@ -1,3 +1,5 @@
+#![tactic(auto)]
+
 ghost use Rattle.std.specs.Prelude.{not, cond, ◌&&◌, ◌≡◌, ◌+◌, ◌*◌, ◌≤◌, ◌<◌, leb, length, get_or, set, take, replicate};
 ghost use Rattle.limits.specs.Limits.{most_rank};
 ghost use Rattle.bits.specs.Sets.{member};

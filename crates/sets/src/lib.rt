@@ -1,1 +1,3 @@
+#![tactic(auto)]
+
 // Sets of numbers: no code, only what proofs speak of.

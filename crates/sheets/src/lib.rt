@@ -1,3 +1,5 @@
+#![tactic(auto)]
+
 ghost use Rattle.std.specs.Prelude.{length};
 ghost use Rattle.sheets.specs.SheetEntry.{SheetAllows};
 ghost use Rattle.sheets.specs.Holding.{Holding, Valued};

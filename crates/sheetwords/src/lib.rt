@@ -1,3 +1,5 @@
+#![tactic(auto)]
+
 ghost use Rattle.std.specs.Prelude.{◌≡◌, ◌+◌, ◌<◌, ◌≤◌, [], length};
 ghost use Rattle.limits.specs.Limits.{most_atoms, most_words};
 ghost use Rattle.refusal.specs.Numbers.{refusal};

@@ -1,3 +1,5 @@
+#![tactic(auto)]
+
 ghost use Rattle.std.specs.Prelude.{◌≡◌};
 ghost use Rattle.host.specs.Evaluation.{HostEvaluation};
 ghost use Rattle.host.specs.Conflict.{HostConflict};

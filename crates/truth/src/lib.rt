@@ -1,3 +1,5 @@
+#![tactic(auto)]
+
 ghost use Rattle.std.specs.Prelude.{◌≡◌};
 ghost use Rattle.refusal.specs.Numbers.{not_a_truth_code};
 ghost use Rattle.truth.specs.Connectives.{conjunction, disjunction, negated, implied};

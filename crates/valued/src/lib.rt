@@ -1,3 +1,5 @@
+#![tactic(auto)]
+
 ghost use Rattle.std.specs.Prelude.{◌≡◌, ◌+◌, ◌*◌, ◌≤◌, ◌<◌, min, max, length, get_or, take, drop};
 ghost use Rattle.paper.specs.Table1.{code};
 ghost use Rattle.paper.specs.Definitions.{value, group_value, any_value, body_value};

@@ -1,5 +1,7 @@
 // The lines of a reason sheet, by passes over the rules. A pass looks only at the records that wait: at first all, then those with a group that
 // became whole. No other has anything to add.
+#![tactic(auto)]
+
 ghost use Rattle.std.specs.Prelude.{◌≡◌, ℕ, ◌<◌, ◌≤◌, T, length, drop};
 ghost use Rattle.limits.specs.Limits.{most_codes};
 ghost use Rattle.bits.specs.Sets.{member};

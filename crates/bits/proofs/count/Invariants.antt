@@ -1,13 +1,7 @@
-use mathlib.Core.Path.{◌≡◌, refl, ap, ◌∙◌}
-use Prim.Native.Nat.{ℕ, ◌*◌, ◌-◌, ◌≤◌, zero-le}
-use native.Mathlib.Omega.{arith}
-use lib.Count.{ones, ones-le}
-use lib.ListN.{get_or}
-use borrow.Author.Rules.{rules}
+use mathlib.Core.Path.{◌≡◌}
+use Prim.Native.Nat.{◌*◌, ◌-◌, ◌≤◌}
 use Rattle.sets.specs.Sets.{count}
-use Rattle.sets.proofs.Counting.{count≤}
 use Rattle.bits.specs.Sets.{member}
-use Rattle.bits.proofs.Laws.{count_turn}
 use Rattle.bits.proofs.count.Given as goal
 
 abbrev pub invariant-loop-w : goal.invariant-loop-w

@@ -2,7 +2,6 @@ use mathlib.Core.Path.{sym, ap, ◌∙◌}
 use Prim.Native.Nat.{ℕ, ◌+◌, ◌*◌, ◌/◌, ◌%◌, ◌^◌, ◌-◌}
 use native.Mathlib.Omega.{arith}
 use lib.Count.{trailing_le}
-use borrow.Author.Rules.{rules}
 use Rattle.bits.specs.Sets.{member}
 use Rattle.bits.proofs.Least.{lowest_from_later}
 use Rattle.bits.proofs.Laws.{none_shifted, lowest_shifted}

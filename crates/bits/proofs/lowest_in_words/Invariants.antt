@@ -1,12 +1,7 @@
-use mathlib.Core.Path.{◌≡◌, sym, ◌∙◌}
+use mathlib.Core.Path.{◌≡◌}
 use mathlib.Core.Bool.{false}
 use Prim.Native.Nat.{ℕ, ◌*◌, ◌-◌, ◌≤◌, ◌<◌}
-use native.Mathlib.Omega.{arith}
-use lib.Count.{trailing_le}
-use borrow.Author.Rules.{rules}
 use Rattle.bits.specs.Sets.{member}
-use Rattle.bits.proofs.Least.{lowest_from_nothing}
-use Rattle.bits.proofs.Laws.{none_in_zero, lowest_turn}
 use Rattle.bits.proofs.lowest_in_words.Given as goal
 
 abbrev pub invariant-loop-w : goal.invariant-loop-w

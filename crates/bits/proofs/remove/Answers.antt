@@ -1,5 +1,4 @@
 use mathlib.Core.Path.{sym, ◌∙◌}
-use borrow.Author.Rules.{rules}
 use Rattle.bits.proofs.Laws.{taken_out_member, taken_out_no_member}
 use Rattle.bits.proofs.remove.Goals as goal
 

@@ -1,9 +1,8 @@
-use borrow.Author.Rules.{rules}
-use mathlib.Core.Path.{◌≡◌, ap, ◌∙◌}
-use mathlib.Core.List.{List, ◌++◌}
-use Prim.Native.Nat.{ℕ, ◌-◌, ◌≤◌}
+use mathlib.Core.Path.{ap, ◌∙◌}
+use mathlib.Core.List.{List}
+use Prim.Native.Nat.{ℕ}
 use native.Mathlib.Omega.{arith}
-use lib.ListN.{length, set, replicate, drop, length-set}
+use lib.ListN.{set, length-set}
 use borrow.Author.Fill.{fill_more}
 use Rattle.buffers.proofs.Cleared.{cleared}
 use Rattle.buffers.proofs.clear_names.Goals as goal

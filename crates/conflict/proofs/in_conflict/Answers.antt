@@ -1,4 +1,3 @@
-use borrow.Author.Rules.{rules}
 use mathlib.Core.Path.{sym, ◌∙◌}
 use Rattle.words.specs.Check.{AcceptedTable}
 use Rattle.words.proofs.Laws.{accepted_atoms, accepted_heads}

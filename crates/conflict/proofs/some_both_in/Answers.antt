@@ -1,11 +1,6 @@
-use borrow.Author.Rules.{rules}
-use Prim.Native.Nat.{◌≤◌}
 use native.Mathlib.Omega.{arith}
-use mathlib.Core.Path.{◌≡◌, refl}
-use Rattle.bits.specs.Sets.{member}
-use Rattle.sets.specs.Some.{some_below}
+use mathlib.Core.Path.{refl}
 use Rattle.sets.proofs.Some.{some_goes_on, some_found, some_end}
-use Rattle.conflict.specs.Both.{both_in}
 use Rattle.conflict.proofs.some_both_in.Goals as goal
 
 pub loop-a-init : goal.loop-a-init

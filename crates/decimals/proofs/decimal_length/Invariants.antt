@@ -1,10 +1,7 @@
-use borrow.Author.Rules.{rules}
 use mathlib.Core.Path.{◌≡◌}
 use Prim.Native.Nat.{◌+◌}
-use native.Mathlib.Omega.{arith}
 use lib.ListN.{length}
 use Rattle.decimals.specs.Decimals.{decimal}
-use Rattle.decimals.proofs.Laws.{length_small, length_more, length_at_most, length_some}
 use Rattle.decimals.proofs.decimal_length.Given as goal
 
 abbrev pub invariant-loop-left : goal.invariant-loop-left

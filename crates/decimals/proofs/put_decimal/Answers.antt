@@ -1,10 +1,7 @@
-use borrow.Author.Rules.{rules}
-use mathlib.Core.Path.{◌≡◌, refl, ap, ◌∙◌}
-use Prim.Native.Nat.{◌+◌, ◌≤◌}
+use mathlib.Core.Path.{refl, ap, ◌∙◌}
+use Prim.Native.Nat.{◌+◌}
 use native.Mathlib.Omega.{arith}
-use lib.ListN.{length, length-set}
-use lib.Seq.{sets}
-use Rattle.decimals.specs.Decimals.{decimal}
+use lib.ListN.{length-set}
 use Rattle.decimals.proofs.Laws.{length_more, length_some}
 use Rattle.decimals.proofs.Stores.{digits_turn, last_digit}
 use Rattle.decimals.proofs.put_decimal.Goals as goal
@@ -33,14 +30,13 @@ bounds-text-end c =
     )
 
 pub loop-left-preserved : goal.loop-left-preserved
-loop-left-preserved c =
-    (
-      length-set c.loop-left.text _ _ ∙ c.loop-left.invariant.0,
-      omega (arith, c.loop-left.invariant.1, length_more c.loop-left.left c.loop-left-test.true),
-      omega (arith, c.loop-left.invariant.2),
-      digits_turn c.loop-left.text c.args.at c.loop-left.left c.loop-left.end _
-          c.loop-left-test.true c.loop-left.invariant.1 c.digit_byte.ensures c.loop-left.invariant.3,
-    )
+loop-left-preserved c = (
+  length-set c.loop-left.text _ _ ∙ c.loop-left.invariant.0,
+  omega (arith, c.loop-left.invariant.1, length_more c.loop-left.left c.loop-left-test.true),
+  omega (arith, c.loop-left.invariant.2),
+  digits_turn c.loop-left.text c.args.at c.loop-left.left c.loop-left.end _
+      c.loop-left-test.true c.loop-left.invariant.1 c.digit_byte.ensures c.loop-left.invariant.3,
+)
 
 pub bounds-text-at : goal.bounds-text-at
 bounds-text-at c =

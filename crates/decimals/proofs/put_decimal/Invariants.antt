@@ -1,12 +1,8 @@
-use borrow.Author.Rules.{rules}
-use mathlib.Core.Path.{◌≡◌, refl, ap, ◌∙◌}
+use mathlib.Core.Path.{◌≡◌}
 use Prim.Native.Nat.{◌+◌, ◌≤◌}
-use native.Mathlib.Omega.{arith}
-use lib.ListN.{length, length-set}
+use lib.ListN.{length}
 use lib.Seq.{sets}
 use Rattle.decimals.specs.Decimals.{decimal}
-use Rattle.decimals.proofs.Laws.{length_more, length_some}
-use Rattle.decimals.proofs.Stores.{digits_turn, last_digit}
 use Rattle.decimals.proofs.put_decimal.Given as goal
 
 abbrev pub invariant-loop-left : goal.invariant-loop-left

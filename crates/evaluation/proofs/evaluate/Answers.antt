@@ -1,4 +1,3 @@
-use borrow.Author.Rules.{rules}
 use mathlib.Core.Path.{sym, ◌∙◌}
 use Rattle.evaluation.specs.Evaluation.{EvaluationAllows}
 use Rattle.evaluation.proofs.evaluate.Goals as goal

@@ -1,4 +1,3 @@
-use borrow.Author.Rules.{rules}
 use borrow.Author.Tests.{le-leb, lt-leb}
 use Rattle.evaluation.specs.Evaluation.{evaluation_fault}
 use Rattle.evaluation.proofs.evaluation_fault.Goals as goal

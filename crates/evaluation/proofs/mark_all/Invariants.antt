@@ -1,11 +1,7 @@
-use borrow.Author.Rules.{rules}
 use Prim.Native.Nat.{◌≤◌, ◌-◌}
-use native.Mathlib.Omega.{arith}
-use mathlib.Core.Path.{◌≡◌, ap, ◌∙◌}
-use lib.ListN.{length}
+use mathlib.Core.Path.{◌≡◌}
 use Rattle.bits.specs.Sets.{member}
 use Rattle.evaluation.specs.Rounds.{RoundOver, paired_below}
-use Rattle.evaluation.proofs.Rounds.{turn, pair_turn, paired_members, none_paired, over_looked, round_begins, round_ends, pairs_end}
 use Rattle.evaluation.proofs.mark_all.Given as goal
 
 abbrev pub invariant-loop-a : goal.invariant-loop-a

@@ -1,4 +1,3 @@
-use borrow.Author.Rules.{rules}
 use Rattle.bits.specs.Sets.{member}
 use Rattle.bits.proofs.Laws.{member_of_zeros}
 use Rattle.pending.proofs.Marked.{closed_held}

@@ -1,11 +1,10 @@
-use borrow.Author.Rules.{rules}
 use Prim.Native.Nat.{ℕ}
 use mathlib.Core.Path.{sym, subst}
 use lib.ListN.{length-replicate}
 use Rattle.words.specs.Layout.{rules_of}
 use Rattle.pending.proofs.Marked.{working_starts}
-use Rattle.evaluation.specs.Rounds.{Settling, Standing}
-use Rattle.evaluation.proofs.Rounds.{left, round_settles, round_falls, standing_on}
+use Rattle.evaluation.specs.Rounds.{Settling}
+use Rattle.evaluation.proofs.Rounds.{round_settles, round_falls, standing_on}
 use Rattle.evaluation.proofs.Evaluated.{first_round, first_clean, clean_held, no_pairs}
 use Rattle.evaluation.proofs.settle.Goals as goal
 
@@ -30,14 +29,13 @@ mark_all-again-requires c =
     (c.requires.0, length-replicate {A = ℕ} 8 0, length-replicate {A = ℕ} 16 0, c.close.ensures.working.ready_row)
 
 pub loop-again-init : goal.loop-again-init
-loop-again-init c =
-    (
-      first_round (rules_of c.args.table.now) c.args.n c.requires.3 c.requires.0 _ _ _ c.close.ensures.working.taken_row
-          (first_clean c.args.table.now c.args.facts _ _ _ c.requires.2 c.close.ensures) c.mark_all-again.ensures.round_over,
-      standing_on _ _
-          c.requires.0 _ _ _ _ _ _ _ _ _ _ (length-replicate {A = ℕ} 8 0) (length-replicate {A = ℕ} 16 0) no_pairs c.close.ensures.working
-          c.close.ensures.none_ready (clean_held _ _ (first_clean c.args.table.now c.args.facts _ _ _ c.requires.2 c.close.ensures)) c.mark_all-again.ensures.round_over c.mark_all-again.ensures.shut_after c.mark_all-again.ensures.ready_after,
-    )
+loop-again-init c = (
+  first_round (rules_of c.args.table.now) c.args.n c.requires.3 c.requires.0 _ _ _ c.close.ensures.working.taken_row
+      (first_clean c.args.table.now c.args.facts _ _ _ c.requires.2 c.close.ensures) c.mark_all-again.ensures.round_over,
+  standing_on _ _
+      c.requires.0 _ _ _ _ _ _ _ _ _ _ (length-replicate {A = ℕ} 8 0) (length-replicate {A = ℕ} 16 0) no_pairs c.close.ensures.working
+      c.close.ensures.none_ready (clean_held _ _ (first_clean c.args.table.now c.args.facts _ _ _ c.requires.2 c.close.ensures)) c.mark_all-again.ensures.round_over c.mark_all-again.ensures.shut_after c.mark_all-again.ensures.ready_after,
+)
 
 pub slice_bounds-round-end : goal.slice_bounds-round-end
 slice_bounds-round-end c = sym c.loop-again.invariant.0.begun.marks_length
@@ -63,11 +61,10 @@ loop-again-smaller c =
     round_falls (rules_of c.args.table.now) c.args.n c.requires.3 c.requires.0 _ _ _ _ _ c.loop-again.invariant.0.begun c.round-again.ensures.round _ c.loop-again-test.true
 
 pub loop-again-preserved : goal.loop-again-preserved
-loop-again-preserved c =
-    (
-      round_settles (rules_of c.args.table.now) c.args.n c.requires.3 c.requires.0 _ _ _ _ _ c.loop-again.invariant.0.begun c.round-again.ensures.round,
-      c.round-again.ensures.standing,
-    )
+loop-again-preserved c = (
+  round_settles (rules_of c.args.table.now) c.args.n c.requires.3 c.requires.0 _ _ _ _ _ c.loop-again.invariant.0.begun c.round-again.ensures.round,
+  c.round-again.ensures.standing,
+)
 
 pub returns : goal.returns
 returns c =

@@ -1,4 +1,3 @@
-use borrow.Author.Rules.{rules}
 use mathlib.Core.Path.{refl}
 use lib.ListN.{length}
 use Rattle.words.proofs.Laws.{accepted_heads}
@@ -7,29 +6,26 @@ use Rattle.evaluation.proofs.Evaluated.{evaluation_accepted, settled_evaluates}
 use Rattle.evaluation.proofs.write_settled.Goals as goal
 
 pub build-requires : goal.build-requires
-build-requires c =
-    (
-      accepted_table c.args.n c.args.table.now (evaluation_accepted c.args.n c.args.table.now (length c.args.values.now) c.requires).1,
-      refl,
-      refl,
-    )
+build-requires c = (
+  accepted_table c.args.n c.args.table.now (evaluation_accepted c.args.n c.args.table.now (length c.args.values.now) c.requires).1,
+  refl,
+  refl,
+)
 
 pub settle-m-requires : goal.settle-m-requires
-settle-m-requires c =
-    (
-      (evaluation_accepted c.args.n c.args.table.now (length c.args.values.now) c.requires).0,
-      c.build.ensures.index_of,
-      c.build.ensures.facts_of,
-      accepted_heads c.args.n c.args.table.now (evaluation_accepted c.args.n c.args.table.now
-          (length c.args.values.now) c.requires).1,
-    )
+settle-m-requires c = (
+  (evaluation_accepted c.args.n c.args.table.now (length c.args.values.now) c.requires).0,
+  c.build.ensures.index_of,
+  c.build.ensures.facts_of,
+  accepted_heads c.args.n c.args.table.now (evaluation_accepted c.args.n c.args.table.now
+      (length c.args.values.now) c.requires).1,
+)
 
 pub write_values-requires : goal.write_values-requires
-write_values-requires c =
-    (
-      (evaluation_accepted c.args.n c.args.table.now (length c.args.values.now) c.requires).0,
-      (evaluation_accepted c.args.n c.args.table.now (length c.args.values.now) c.requires).2,
-    )
+write_values-requires c = (
+  (evaluation_accepted c.args.n c.args.table.now (length c.args.values.now) c.requires).0,
+  (evaluation_accepted c.args.n c.args.table.now (length c.args.values.now) c.requires).2,
+)
 
 pub returns : goal.returns
 returns c =

@@ -1,4 +1,3 @@
-use borrow.Author.Rules.{rules}
 use mathlib.Core.Path.{sym}
 use native.Mathlib.Omega.{arith}
 use Rattle.words.specs.Layout.{body_at}
@@ -15,12 +14,11 @@ returns-then-m-g c =
     (omega (arith, c.if-m-g.true, c.word_inside-m.ensures.value, length_take_groups (groups_in t at) (body_from t at) c.requires.2)))
 
 pub skip_groups-group-requires : goal.skip_groups-group-requires
-skip_groups-group-requires c =
-    (
-      c.requires.1,
-      whole_fewer _ (groups_in c.args.table.now c.args.at) _ (omega (arith, c.if-m-g.false, c.word_inside-m.ensures.value))
-          c.requires.2,
-    )
+skip_groups-group-requires c = (
+  c.requires.1,
+  whole_fewer _ (groups_in c.args.table.now c.args.at) _ (omega (arith, c.if-m-g.false, c.word_inside-m.ensures.value))
+      c.requires.2,
+)
 
 pub word_inside-k-requires : goal.word_inside-k-requires
 word_inside-k-requires c =

@@ -1,7 +1,6 @@
 use mathlib.Core.Path.{refl, ap}
 use lib.Dec.{eqb}
 use Rattle.grounds.proofs.Nth.{no_groups_lem, some_groups}
-use borrow.Author.Rules.{rules}
 use Rattle.grounds.proofs.fact_of.Goals as goal
 
 -- src/lib.rt:67:9

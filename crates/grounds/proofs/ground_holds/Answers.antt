@@ -1,4 +1,3 @@
-use borrow.Author.Rules.{rules}
 use native.Mathlib.Omega.{arith}
 use Rattle.grounds.proofs.Judging.{told_fact, told_group}
 use Rattle.grounds.proofs.ground_holds.Goals as goal

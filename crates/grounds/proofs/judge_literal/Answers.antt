@@ -1,7 +1,6 @@
 use mathlib.Core.Path.{sym, ap, ◌∙◌}
 use Rattle.grounds.specs.Grounds.{with_judged}
 use Rattle.grounds.proofs.Judging.{told_judged, told_other}
-use borrow.Author.Rules.{rules}
 use Rattle.grounds.proofs.judge_literal.Goals as goal
 
 pub returns-then-ground_holds : goal.returns-then-ground_holds

@@ -1,5 +1,4 @@
 use Rattle.grounds.proofs.Judging.{both_judged}
-use borrow.Author.Rules.{rules}
 use Rattle.grounds.proofs.judge_record.Goals as goal
 
 pub returns : goal.returns

@@ -1,11 +1,7 @@
-use borrow.Author.Rules.{rules}
-use Prim.Native.Nat.{◌-◌}
 use native.Mathlib.Omega.{arith}
-use lib.ListN.{length}
 use Rattle.words.proofs.Laws.{accepted_atoms, accepted_heads, accepted_literals}
-use Rattle.values.specs.Given.{given}
 use Rattle.valued.proofs.Through.{this_record, this_of_table}
-use Rattle.grounds.proofs.Judging.{Judging, judging_start, judging_next, judging_end}
+use Rattle.grounds.proofs.Judging.{judging_start, judging_next, judging_end}
 use Rattle.grounds.proofs.justified_lines.Goals as goal
 
 pub loop-at-init : goal.loop-at-init

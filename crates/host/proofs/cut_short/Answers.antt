@@ -1,4 +1,3 @@
-use borrow.Author.Rules.{rules}
 use Rattle.host.proofs.Evaluating.{cut_refused, cut_accepted}
 use Rattle.host.proofs.cut_short.Goals as goal
 

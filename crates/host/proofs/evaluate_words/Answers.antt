@@ -1,4 +1,3 @@
-use borrow.Author.Rules.{rules}
 use Rattle.host.proofs.Evaluating.{words_refused, words_packable, words_evaluated}
 use Rattle.host.proofs.evaluate_words.Goals as goal
 

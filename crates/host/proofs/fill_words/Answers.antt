@@ -1,9 +1,7 @@
-use borrow.Author.Rules.{rules}
-use Prim.Native.Nat.{◌≤◌, ◌-◌, ◌/◌}
 use native.Mathlib.Omega.{arith}
-use mathlib.Core.Path.{◌≡◌, refl, ◌∙◌}
-use lib.ListN.{length, length-set}
-use Rattle.host.proofs.Bytes.{filled, fills_nothing, fills_one, fills_all}
+use mathlib.Core.Path.{refl, ◌∙◌}
+use lib.ListN.{length-set}
+use Rattle.host.proofs.Bytes.{fills_nothing, fills_one, fills_all}
 use Rattle.host.proofs.fill_words.Goals as goal
 
 pub loop-i-init : goal.loop-i-init
@@ -15,14 +13,13 @@ word_of-requires c =
     omega arith
 
 pub loop-i-preserved : goal.loop-i-preserved
-loop-i-preserved c =
-    (
-      omega arith,
-      c.loop-i.invariant.1,
-      length-set c.loop-i.words c.loop-i.i c.word_of.result ∙ c.loop-i.invariant.2,
-      fills_one c.args.bytes.now c.args.words.now c.loop-i.words c.loop-i.i c.word_of.result
-          (omega (arith, c.loop-i-test.true, c.loop-i.invariant.1)) c.requires c.word_of.ensures c.loop-i.invariant.3,
-    )
+loop-i-preserved c = (
+  omega arith,
+  c.loop-i.invariant.1,
+  length-set c.loop-i.words c.loop-i.i c.word_of.result ∙ c.loop-i.invariant.2,
+  fills_one c.args.bytes.now c.args.words.now c.loop-i.words c.loop-i.i c.word_of.result
+      (omega (arith, c.loop-i-test.true, c.loop-i.invariant.1)) c.requires c.word_of.ensures c.loop-i.invariant.3,
+)
 
 pub returns : goal.returns
 returns c =

@@ -1,4 +1,3 @@
-use borrow.Author.Rules.{rules}
 use mathlib.Core.Path.{sym, ◌∙◌, ap}
 use Rattle.host.specs.Conflict.{packed_decided}
 use Rattle.host.proofs.pack_decided.Goals as goal

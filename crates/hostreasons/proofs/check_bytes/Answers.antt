@@ -5,7 +5,6 @@ use lib.ListN.{length}
 use Rattle.host.proofs.Bytes.{length_words_in}
 use Rattle.host.proofs.Evaluating.{front_words, evaluation_packable}
 use Rattle.hostreasons.proofs.Checking.{check_small, check_too_long, check_cut, check_whole}
-use borrow.Author.Rules.{rules}
 use Rattle.hostreasons.proofs.check_bytes.Goals as goal
 
 pub returns-then-m-gt-MOST_WORDS : goal.returns-then-m-gt-MOST_WORDS

@@ -1,6 +1,5 @@
 use mathlib.Core.Path.{sym, ◌∙◌, ap}
 use Rattle.hostreasons.specs.CheckBytes.{packed_check}
-use borrow.Author.Rules.{rules}
 use Rattle.hostreasons.proofs.pack_checked.Goals as goal
 
 pub pack_readable-requires : goal.pack_readable-requires

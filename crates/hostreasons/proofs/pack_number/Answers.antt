@@ -1,6 +1,5 @@
 use mathlib.Core.Path.{sym, ◌∙◌, ap}
 use Rattle.hostreasons.specs.ReasonBytes.{packed_number}
-use borrow.Author.Rules.{rules}
 use Rattle.hostreasons.proofs.pack_number.Goals as goal
 
 pub pack-requires : goal.pack-requires

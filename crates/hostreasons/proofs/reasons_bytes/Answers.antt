@@ -6,7 +6,6 @@ use Rattle.host.proofs.Bytes.{length_words_in}
 use Rattle.host.proofs.Evaluating.{front_words}
 use Rattle.host.proofs.Conflict.{check_packable}
 use Rattle.hostreasons.proofs.Writing.{reasons_packable, reasons_too_long, reasons_cut, reasons_whole}
-use borrow.Author.Rules.{rules}
 use Rattle.hostreasons.proofs.reasons_bytes.Goals as goal
 
 pub returns-then-m-gt-MOST_WORDS : goal.returns-then-m-gt-MOST_WORDS

@@ -1,4 +1,3 @@
-use borrow.Author.Rules.{rules}
 use mathlib.Core.Path.{sym, ap, ◌∙◌}
 use Rattle.hostsheet.specs.SheetBytes.{packed_answer}
 use Rattle.hostsheet.proofs.answer.Goals as goal

@@ -1,11 +1,9 @@
-use borrow.Author.Rules.{rules}
-use Prim.Native.Nat.{◌≤◌, ◌-◌, ◌*◌, ◌/◌, ◌%◌}
-use native.Mathlib.Omega.{arith}
-use mathlib.Core.Path.{◌≡◌, refl, ap, ◌∙◌}
+use Prim.Native.Nat.{◌≤◌, ◌-◌, ◌*◌, ◌/◌}
+use mathlib.Core.Path.{◌≡◌}
 use lib.ListN.{length}
 use Rattle.hostsheet.specs.SheetBytes.{name_bytes}
 use Rattle.hostsheet.specs.Rooms.{sized}
-use Rattle.hostsheet.proofs.Laying.{laid, four_length, lays_name, laid_names}
+use Rattle.hostsheet.proofs.Laying.{laid}
 use Rattle.hostsheet.proofs.put_names.Given as goal
 
 abbrev pub invariant-loop-i : goal.invariant-loop-i

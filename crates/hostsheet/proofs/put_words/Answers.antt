@@ -1,11 +1,8 @@
-use borrow.Author.Rules.{rules}
-use Prim.Native.Nat.{◌≤◌, ◌-◌, ◌*◌, ◌/◌, ◌%◌, ◌+◌}
+use Prim.Native.Nat.{◌*◌, ◌/◌, ◌%◌, ◌+◌}
 use native.Mathlib.Omega.{arith}
-use mathlib.Core.Path.{◌≡◌, refl, ap, ◌∙◌}
+use mathlib.Core.Path.{refl, ap, ◌∙◌}
 use lib.ListN.{length, set, length-set}
-use Rattle.hostsheet.specs.SheetBytes.{word_bytes}
-use Rattle.hostsheet.specs.Rooms.{sized}
-use Rattle.hostsheet.proofs.Laying.{laid, lays_word, laid_words}
+use Rattle.hostsheet.proofs.Laying.{lays_word, laid_words}
 use Rattle.hostsheet.proofs.put_words.Goals as goal
 
 pub loop-i-init : goal.loop-i-init
@@ -20,16 +17,15 @@ put_word-requires c =
     }
 
 pub loop-i-preserved : goal.loop-i-preserved
-loop-i-preserved c =
-    (
-      omega arith,
-      c.loop-i.invariant.1,
-      ap length c.put_word.ensures
-          ∙ length-set (set c.loop-i.bytes (2 * c.loop-i.i) (c.word.result % 256)) (2 * c.loop-i.i + 1) (c.word.result / 256)
-          ∙ length-set c.loop-i.bytes (2 * c.loop-i.i) (c.word.result % 256) ∙ c.loop-i.invariant.2,
-      c.put_word.ensures ∙ lays_word c.args.words.now c.args.bytes.now c.loop-i.bytes
-          c.loop-i.i c.word.result (omega (arith, c.loop-i-test.true, c.loop-i.invariant.1)) c.word.ensures.value c.loop-i.invariant.3,
-    )
+loop-i-preserved c = (
+  omega arith,
+  c.loop-i.invariant.1,
+  ap length c.put_word.ensures
+      ∙ length-set (set c.loop-i.bytes (2 * c.loop-i.i) (c.word.result % 256)) (2 * c.loop-i.i + 1) (c.word.result / 256)
+      ∙ length-set c.loop-i.bytes (2 * c.loop-i.i) (c.word.result % 256) ∙ c.loop-i.invariant.2,
+  c.put_word.ensures ∙ lays_word c.args.words.now c.args.bytes.now c.loop-i.bytes
+      c.loop-i.i c.word.result (omega (arith, c.loop-i-test.true, c.loop-i.invariant.1)) c.word.ensures.value c.loop-i.invariant.3,
+)
 
 pub returns : goal.returns
 returns c =

@@ -1,4 +1,3 @@
-use borrow.Author.Rules.{rules}
 use mathlib.Core.Path.{sym}
 use Rattle.hostsheet.proofs.Rooms.{length_lent, length_local}
 use Rattle.hostsheet.proofs.Answers.{host_answers}

@@ -1,10 +1,7 @@
-use Prim.Native.Nat.{ℕ, ◌-◌}
-use native.Mathlib.Omega.{arith}
-use mathlib.Core.Path.{sym, ap, ◌∙◌}
-use lib.ListN.{length, length-replicate}
+use Prim.Native.Nat.{◌-◌}
+use lib.ListN.{length}
 use Rattle.index.specs.Placed.{Table}
 use Rattle.index.specs.Index.{IndexedTo}
-use Rattle.index.proofs.Indexing.{to_starts, indexed_ends, facts_end}
 use Rattle.index.proofs.build.Given as goal
 
 abbrev pub invariant-loop-at : goal.invariant-loop-at

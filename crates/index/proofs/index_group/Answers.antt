@@ -1,5 +1,4 @@
-use borrow.Author.Rules.{rules}
-use Prim.Native.Nat.{◌+◌, ◌-◌, ◌≤◌}
+use Prim.Native.Nat.{◌+◌}
 use native.Mathlib.Omega.{arith}
 use mathlib.Core.Path.{ap, subst}
 use Rattle.words.specs.Layout.{literals_at}
@@ -16,16 +15,15 @@ pub word_inside-k-requires : goal.word_inside-k-requires
 word_inside-k-requires c = omega (arith, group_inside _ c.requires.0 _ _ _ c.requires.1)
 
 pub set_owner-requires : goal.set_owner-requires
-set_owner-requires c =
-    (
-      c.requires.2.size,
-      omega (arith, group_inside _ c.requires.0 _ _ _ c.requires.1, table_short _ c.requires.0),
-      omega (
-        arith,
-        head_small
-            _ c.requires.0 _ _ _ c.requires.1,
-      ),
-    )
+set_owner-requires c = (
+  c.requires.2.size,
+  omega (arith, group_inside _ c.requires.0 _ _ _ c.requires.1, table_short _ c.requires.0),
+  omega (
+    arith,
+    head_small
+        _ c.requires.0 _ _ _ c.requires.1,
+  ),
+)
 
 pub loop-i-init : goal.loop-i-init
 loop-i-init c =
@@ -62,37 +60,35 @@ overflow_add-first-in-loop-i-2 c =
     )
 
 pub note_literal-requires : goal.note_literal-requires
-note_literal-requires c =
-    (
-      c.loop-i.invariant.1.size,
-      omega (
-        arith,
-        c.word_inside-l.ensures.value,
-        code_small _ c.requires.0 _ _ _ c.requires.1 c.loop-i.i (omega
-            (arith, c.word_inside-k.ensures.value, c.loop-i-test.true)),
-      ),
-      omega (
-        arith,
-        group_inside _ c.requires.0 _ _ _ c.requires.1,
-        table_short _ c.requires.0,
-        c.word_inside-k.ensures.value,
-        c.loop-i-test.true,
-      ),
-      omega (
-        arith,
-        group_inside _ c.requires.0 _ _
-            _ c.requires.1,
-        table_short _ c.requires.0,
-      ),
-    )
+note_literal-requires c = (
+  c.loop-i.invariant.1.size,
+  omega (
+    arith,
+    c.word_inside-l.ensures.value,
+    code_small _ c.requires.0 _ _ _ c.requires.1 c.loop-i.i (omega
+        (arith, c.word_inside-k.ensures.value, c.loop-i-test.true)),
+  ),
+  omega (
+    arith,
+    group_inside _ c.requires.0 _ _ _ c.requires.1,
+    table_short _ c.requires.0,
+    c.word_inside-k.ensures.value,
+    c.loop-i-test.true,
+  ),
+  omega (
+    arith,
+    group_inside _ c.requires.0 _ _
+        _ c.requires.1,
+    table_short _ c.requires.0,
+  ),
+)
 
 pub loop-i-preserved : goal.loop-i-preserved
-loop-i-preserved c =
-    (
-      omega arith,
-      literal_turn _ c.requires.0 _ _ _ c.requires.1 _ _ _ _ (omega (arith, c.word_inside-k.ensures.value, c.loop-i-test.true))
-          c.word_inside-l.ensures.value c.loop-i.invariant.1 c.note_literal.ensures,
-    )
+loop-i-preserved c = (
+  omega arith,
+  literal_turn _ c.requires.0 _ _ _ c.requires.1 _ _ _ _ (omega (arith, c.word_inside-k.ensures.value, c.loop-i-test.true))
+      c.word_inside-l.ensures.value c.loop-i.invariant.1 c.note_literal.ensures,
+)
 
 pub overflow_add-result : goal.overflow_add-result
 overflow_add-result c =

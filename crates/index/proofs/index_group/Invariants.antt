@@ -1,12 +1,7 @@
-use borrow.Author.Rules.{rules}
 use Prim.Native.Nat.{◌+◌, ◌-◌, ◌≤◌}
-use native.Mathlib.Omega.{arith}
-use mathlib.Core.Path.{ap, subst}
 use Rattle.words.specs.Layout.{literals_at}
 use Rattle.index.specs.Placed.{placed_of}
 use Rattle.index.specs.Index.{Indexed}
-use Rattle.index.proofs.Placed.{table_short}
-use Rattle.index.proofs.Indexing.{group_inside, head_small, code_small, group_starts, literal_turn}
 use Rattle.index.proofs.index_group.Given as goal
 
 abbrev pub invariant-loop-i : goal.invariant-loop-i

@@ -1,12 +1,9 @@
-use borrow.Author.Rules.{rules}
-use Prim.Native.Nat.{ℕ, ◌≤◌}
-use native.Mathlib.Omega.{arith}
-use mathlib.Core.Path.{◌≡◌, refl, ap, ◌∙◌, subst}
+use Prim.Native.Nat.{◌≤◌}
+use mathlib.Core.Path.{◌≡◌}
 use lib.ListN.{drop}
 use Rattle.words.specs.Layout.{drop_groups}
 use Rattle.index.specs.Placed.{Cursor, placed_of}
 use Rattle.index.specs.Index.{Indexed}
-use Rattle.index.proofs.Indexing.{group_next, group_dropped, done}
 use Rattle.index.proofs.index_groups.Given as goal
 
 abbrev pub invariant-loop-left : goal.invariant-loop-left

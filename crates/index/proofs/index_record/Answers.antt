@@ -1,4 +1,3 @@
-use borrow.Author.Rules.{rules}
 use native.Mathlib.Omega.{arith}
 use Rattle.index.proofs.Placed.{cursor_record}
 use Rattle.index.proofs.Indexing.{indexed_record, record_comes, record_turn}
@@ -9,12 +8,11 @@ word_inside-m-requires c =
     (cursor_record _ _ _ c.requires.2.cursor c.requires.1).0
 
 pub index_groups-requires : goal.index_groups-requires
-index_groups-requires c =
-    (
-      c.requires.0,
-      record_comes _ c.requires.0 _ c.requires.1 _ _ c.requires.2 _ _ c.word_inside-head.ensures.value c.word_inside-m.ensures.value,
-      indexed_record _ c.requires.0 _ _ _ c.requires.2.cursor c.requires.2.indexed,
-    )
+index_groups-requires c = (
+  c.requires.0,
+  record_comes _ c.requires.0 _ c.requires.1 _ _ c.requires.2 _ _ c.word_inside-head.ensures.value c.word_inside-m.ensures.value,
+  indexed_record _ c.requires.0 _ _ _ c.requires.2.cursor c.requires.2.indexed,
+)
 
 pub returns : goal.returns
 returns c =

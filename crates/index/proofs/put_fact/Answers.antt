@@ -1,4 +1,3 @@
-use borrow.Author.Rules.{rules}
 use mathlib.Core.Path.{◌∙◌}
 use Rattle.index.proofs.Indexing.{a_fact, no_fact}
 use Rattle.index.proofs.put_fact.Goals as goal

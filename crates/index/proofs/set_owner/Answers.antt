@@ -1,4 +1,3 @@
-use borrow.Author.Rules.{rules}
 use Rattle.index.specs.Index.{with_owner}
 use Rattle.index.proofs.set_owner.Goals as goal
 

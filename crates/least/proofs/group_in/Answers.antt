@@ -1,11 +1,5 @@
-use borrow.Author.Rules.{rules}
-use Prim.Native.Nat.{◌≤◌, ◌-◌, ◌+◌}
 use native.Mathlib.Omega.{arith}
 use native.Mathlib.Nat.{sub-zero, add-zero}
-use mathlib.Core.Path.{◌≡◌}
-use lib.ListN.{take, drop}
-use Rattle.bits.specs.Sets.{member}
-use Rattle.paper.specs.Fires.{wholly}
 use Rattle.least.proofs.Walk.{group_goes_on, group_stops, group_ends}
 use Rattle.least.proofs.group_in.Goals as goal
 
@@ -14,12 +8,11 @@ loop-i-init c =
     (omega arith, rw (sub-zero, add-zero))
 
 pub loop-i-preserved : goal.loop-i-preserved
-loop-i-preserved c =
-    (
-      omega arith,
-      group_goes_on _ _ _ _ _ _ _ c.requires c.loop-i-test.true
-          c.word_inside.ensures.value c.has.ensures c.if-has.true c.loop-i.invariant.1,
-    )
+loop-i-preserved c = (
+  omega arith,
+  group_goes_on _ _ _ _ _ _ _ c.requires c.loop-i-test.true
+      c.word_inside.ensures.value c.has.ensures c.if-has.true c.loop-i.invariant.1,
+)
 
 pub returns-else-has : goal.returns-else-has
 returns-else-has c =

@@ -1,12 +1,8 @@
-use borrow.Author.Rules.{rules}
 use Prim.Native.Nat.{◌≤◌, ◌-◌, ◌+◌}
-use native.Mathlib.Omega.{arith}
-use native.Mathlib.Nat.{sub-zero, add-zero}
 use mathlib.Core.Path.{◌≡◌}
 use lib.ListN.{take, drop}
 use Rattle.bits.specs.Sets.{member}
 use Rattle.paper.specs.Fires.{wholly}
-use Rattle.least.proofs.Walk.{group_goes_on, group_stops, group_ends}
 use Rattle.least.proofs.group_in.Given as goal
 
 abbrev pub invariant-loop-i : goal.invariant-loop-i

@@ -1,14 +1,10 @@
-use borrow.Author.Rules.{rules}
 use Prim.Native.Nat.{◌≤◌, ◌-◌, ◌+◌}
-use native.Mathlib.Omega.{arith}
-use mathlib.Core.Path.{◌≡◌, refl, ap, ◌∙◌}
+use mathlib.Core.Path.{◌≡◌}
 use lib.ListN.{length, drop}
 use Rattle.bits.specs.Sets.{member}
 use Rattle.words.specs.RecordAt.{WholeGroups}
 use Rattle.words.specs.Layout.{take_groups, drop_groups}
-use Rattle.least.specs.declared.WhichGroup.TheVariants.{Number}
 use Rattle.least.specs.Walk.{which_from}
-use Rattle.least.proofs.Walk.{group_inside, group_fits, groups_go_on, groups_end, skipped_on, which_goes_on, which_ends, which_none}
 use Rattle.least.proofs.lowest_group.Given as goal
 
 abbrev pub invariant-loop-left : goal.invariant-loop-left

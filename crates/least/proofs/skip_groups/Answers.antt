@@ -1,10 +1,5 @@
-use borrow.Author.Rules.{rules}
-use Prim.Native.Nat.{◌≤◌}
 use native.Mathlib.Omega.{arith}
-use mathlib.Core.Path.{◌≡◌, refl, ◌∙◌}
-use lib.ListN.{length, drop}
-use Rattle.words.specs.RecordAt.{WholeGroups}
-use Rattle.words.specs.Layout.{drop_groups}
+use mathlib.Core.Path.{refl, ◌∙◌}
 use Rattle.least.proofs.Walk.{group_inside, group_fits, groups_go_on, groups_end}
 use Rattle.least.proofs.skip_groups.Goals as goal
 

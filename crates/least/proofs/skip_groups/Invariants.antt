@@ -1,11 +1,8 @@
-use borrow.Author.Rules.{rules}
 use Prim.Native.Nat.{◌≤◌}
-use native.Mathlib.Omega.{arith}
-use mathlib.Core.Path.{◌≡◌, refl, ◌∙◌}
+use mathlib.Core.Path.{◌≡◌}
 use lib.ListN.{length, drop}
 use Rattle.words.specs.RecordAt.{WholeGroups}
 use Rattle.words.specs.Layout.{drop_groups}
-use Rattle.least.proofs.Walk.{group_inside, group_fits, groups_go_on, groups_end}
 use Rattle.least.proofs.skip_groups.Given as goal
 
 abbrev pub invariant-loop-left : goal.invariant-loop-left

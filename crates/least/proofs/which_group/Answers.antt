@@ -1,4 +1,3 @@
-use borrow.Author.Rules.{rules}
 use Rattle.bits.specs.Sets.{member}
 use Rattle.least.proofs.Recorded.{fact_there, body_there}
 use Rattle.least.proofs.which_group.Goals as goal

@@ -1,4 +1,3 @@
-use borrow.Author.Rules.{rules}
 use borrow.Author.Tests.{lt-leb, le-leb}
 use Rattle.literals.specs.Literals.{fault_with}
 use Rattle.literals.proofs.fault_with.Goals as goal

@@ -1,4 +1,3 @@
-use borrow.Author.Rules.{rules}
 use Rattle.literals.proofs.is_repeated.Goals as goal
 
 pub returns-in-Head : goal.returns-in-Head

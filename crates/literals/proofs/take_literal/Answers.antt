@@ -1,4 +1,3 @@
-use borrow.Author.Rules.{rules}
 use mathlib.Core.Path.{sym, ◌∙◌}
 use Rattle.literals.proofs.Taking.{faultless_allowed, took_off, took_on}
 use Rattle.literals.proofs.take_literal.Goals as goal

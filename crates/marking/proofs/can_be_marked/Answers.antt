@@ -1,4 +1,3 @@
-use borrow.Author.Rules.{rules}
 use Rattle.bits.specs.Sets.{member}
 use Rattle.marking.proofs.Markable.{markable_is}
 use Rattle.marking.proofs.can_be_marked.Goals as goal

@@ -1,4 +1,3 @@
-use borrow.Author.Rules.{rules}
 use Rattle.bits.specs.Sets.{member}
 use Rattle.marking.proofs.Markable.{goes_on}
 use Rattle.marking.proofs.can_go_on.Goals as goal

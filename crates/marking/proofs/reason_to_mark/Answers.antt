@@ -1,4 +1,3 @@
-use borrow.Author.Rules.{rules}
 use mathlib.Core.Path.{sym, ◌∙◌}
 use mathlib.Core.Bool.{or-false}
 use Rattle.marking.proofs.reason_to_mark.Goals as goal

@@ -1,10 +1,7 @@
-use borrow.Author.Rules.{rules}
 use Prim.Native.Nat.{◌≤◌}
-use native.Mathlib.Omega.{arith}
-use mathlib.Core.Path.{◌≡◌, refl}
+use mathlib.Core.Path.{◌≡◌}
 use Rattle.bits.specs.Sets.{member}
 use Rattle.sets.specs.Some.{some_below}
-use Rattle.sets.proofs.Some.{some_goes_on, some_found, some_end}
 use Rattle.marking.specs.Markable.{markable}
 use Rattle.marking.proofs.some_markable.Given as goal
 

@@ -1,10 +1,5 @@
-use borrow.Author.Rules.{rules}
-use mathlib.Core.Path.{◌≡◌}
-use Prim.Native.Nat.{◌+◌, ◌-◌, ◌≤◌}
 use native.Mathlib.Nat.{zero-add}
 use native.Mathlib.Omega.{arith}
-use lib.ListN.{take, drop}
-use Rattle.names.specs.Names.{bytes_at, number_in}
 use Rattle.names.proofs.Steps.{found_here, search_on, found_none}
 use Rattle.names.proofs.number.Goals as goal
 
@@ -21,12 +16,11 @@ returns-then-has_name c =
     }
 
 pub loop-i-preserved : goal.loop-i-preserved
-loop-i-preserved c =
-    (
-      omega arith,
-      search_on c.args.sheet.now c.args.names.now _ c.args.count c.loop-i.i c.requires.count_in_bounds c.loop-i.invariant.1 _
-          c.entry-e.ensures.value _ c.loop-i-test.true c.has_name.ensures c.if-has_name.false,
-    )
+loop-i-preserved c = (
+  omega arith,
+  search_on c.args.sheet.now c.args.names.now _ c.args.count c.loop-i.i c.requires.count_in_bounds c.loop-i.invariant.1 _
+      c.entry-e.ensures.value _ c.loop-i-test.true c.has_name.ensures c.if-has_name.false,
+)
 
 pub returns : goal.returns
 returns c =

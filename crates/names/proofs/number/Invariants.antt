@@ -1,11 +1,7 @@
-use borrow.Author.Rules.{rules}
 use mathlib.Core.Path.{◌≡◌}
 use Prim.Native.Nat.{◌+◌, ◌-◌, ◌≤◌}
-use native.Mathlib.Nat.{zero-add}
-use native.Mathlib.Omega.{arith}
 use lib.ListN.{take, drop}
 use Rattle.names.specs.Names.{bytes_at, number_in}
-use Rattle.names.proofs.Steps.{found_here, search_on, found_none}
 use Rattle.names.proofs.number.Given as goal
 
 abbrev pub invariant-loop-i : goal.invariant-loop-i

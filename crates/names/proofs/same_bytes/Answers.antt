@@ -1,9 +1,6 @@
-use borrow.Author.Rules.{rules}
-use mathlib.Core.Path.{◌≡◌, sym, ◌∙◌}
-use Prim.Native.Nat.{◌-◌, ◌≤◌}
+use mathlib.Core.Path.{sym, ◌∙◌}
 use native.Mathlib.Omega.{arith}
-use Rattle.names.specs.Names.{bytes_at, same_bytes}
-use Rattle.names.proofs.Steps.{rest_same, same_begins, same_on, same_stops, same_ended}
+use Rattle.names.proofs.Steps.{same_begins, same_on, same_stops, same_ended}
 use Rattle.names.proofs.same_bytes.Goals as goal
 
 pub loop-i-init : goal.loop-i-init
@@ -16,13 +13,12 @@ returns-then-byte c =
     c.loop-i-test.true (λ e. c.if-byte.true (c.byte.ensures ∙ e ∙ sym c.byte-in-loop-i.ensures))
 
 pub loop-i-preserved : goal.loop-i-preserved
-loop-i-preserved c =
-    (
-      omega arith,
-      same_on c.args.sheet.now c.args.a c.args.b c.args.n c.loop-i.i _
-          c.loop-i.invariant.1 c.loop-i-test.true
-          (sym c.byte.ensures ∙ c.if-byte.false ∙ c.byte-in-loop-i.ensures),
-    )
+loop-i-preserved c = (
+  omega arith,
+  same_on c.args.sheet.now c.args.a c.args.b c.args.n c.loop-i.i _
+      c.loop-i.invariant.1 c.loop-i-test.true
+      (sym c.byte.ensures ∙ c.if-byte.false ∙ c.byte-in-loop-i.ensures),
+)
 
 pub returns : goal.returns
 returns c =

@@ -1,9 +1,7 @@
-use borrow.Author.Rules.{rules}
-use mathlib.Core.Path.{◌≡◌, sym, ◌∙◌}
+use mathlib.Core.Path.{◌≡◌}
 use Prim.Native.Nat.{◌-◌, ◌≤◌}
-use native.Mathlib.Omega.{arith}
 use Rattle.names.specs.Names.{bytes_at, same_bytes}
-use Rattle.names.proofs.Steps.{rest_same, same_begins, same_on, same_stops, same_ended}
+use Rattle.names.proofs.Steps.{rest_same}
 use Rattle.names.proofs.same_bytes.Given as goal
 
 abbrev pub invariant-loop-i : goal.invariant-loop-i

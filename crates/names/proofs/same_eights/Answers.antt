@@ -1,8 +1,6 @@
-use borrow.Author.Rules.{rules}
-use Prim.Native.Nat.{◌+◌, ◌-◌, ◌≤◌}
-use mathlib.Core.Path.{◌≡◌, refl}
+use mathlib.Core.Path.{refl}
 use native.Mathlib.Omega.{arith}
-use Rattle.names.proofs.Eights.{Same, none_same, eights_differ, eight_more, eights_decide}
+use Rattle.names.proofs.Eights.{none_same, eights_differ, eight_more, eights_decide}
 use Rattle.names.proofs.same_eights.Goals as goal
 
 pub loop-i-init : goal.loop-i-init
@@ -16,14 +14,13 @@ returns-then-eight c =
     (omega arith) c.eight.ensures c.eight-in-loop-i.ensures c.if-eight.true
 
 pub loop-i-preserved : goal.loop-i-preserved
-loop-i-preserved c =
-    (
-      omega arith,
-      c.loop-i.invariant.1,
-      eight_more c.args.sheet.now (λ j. omega (arith, c.shared_slice_known-1.given j))
-          c.args.a c.args.b c.args.n c.loop-i.i c.eight.result
-          c.eight-in-loop-i.result c.eight.ensures c.eight-in-loop-i.ensures c.if-eight.false c.loop-i.invariant.2,
-    )
+loop-i-preserved c = (
+  omega arith,
+  c.loop-i.invariant.1,
+  eight_more c.args.sheet.now (λ j. omega (arith, c.shared_slice_known-1.given j))
+      c.args.a c.args.b c.args.n c.loop-i.i c.eight.result
+      c.eight-in-loop-i.result c.eight.ensures c.eight-in-loop-i.ensures c.if-eight.false c.loop-i.invariant.2,
+)
 
 pub returns : goal.returns
 returns c =

@@ -1,8 +1,6 @@
-use borrow.Author.Rules.{rules}
 use Prim.Native.Nat.{◌+◌, ◌-◌, ◌≤◌}
-use mathlib.Core.Path.{◌≡◌, refl}
-use native.Mathlib.Omega.{arith}
-use Rattle.names.proofs.Eights.{Same, none_same, eights_differ, eight_more, eights_decide}
+use mathlib.Core.Path.{◌≡◌}
+use Rattle.names.proofs.Eights.{Same}
 use Rattle.names.proofs.same_eights.Given as goal
 
 abbrev pub invariant-loop-i : goal.invariant-loop-i

@@ -1,4 +1,3 @@
-use borrow.Author.Rules.{rules}
 use native.Mathlib.Omega.{arith}
 use Rattle.names.proofs.Eights.{fours_differ, fours_decide}
 use Rattle.names.proofs.same_fours.Goals as goal

@@ -1,4 +1,3 @@
-use borrow.Author.Rules.{rules}
 use Rattle.bits.specs.Sets.{member}
 use Rattle.pending.proofs.Marked.{marked_pairs}
 use Rattle.pending.proofs.clean.Goals as goal

@@ -1,4 +1,3 @@
-use borrow.Author.Rules.{rules}
 use Rattle.pending.proofs.Marked.{working_starts, clean_there}
 use Rattle.pending.proofs.clean_without.Goals as goal
 

@@ -1,9 +1,5 @@
-use mathlib.Core.Bool.{false, cond, true≢false}
-use mathlib.Core.Path.{◌≡◌, sym, ◌∙◌}
-use Prim.Native.Nat.{ℕ, ◌+◌}
-use Rattle.bits.specs.Sets.{member}
-use Rattle.index.specs.Index.{IndexOf}
-use Rattle.pending.specs.Pending.{Working, Closing, left}
+use mathlib.Core.Bool.{true≢false}
+use mathlib.Core.Path.{sym, ◌∙◌}
 use Rattle.pending.proofs.Closing.{closing_starts, closed_there, step_falls, none_left}
 use Rattle.pending.proofs.close.Goals as goal
 

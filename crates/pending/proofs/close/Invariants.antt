@@ -1,10 +1,9 @@
-use mathlib.Core.Bool.{false, cond, true≢false}
-use mathlib.Core.Path.{◌≡◌, sym, ◌∙◌}
+use mathlib.Core.Bool.{false, cond}
+use mathlib.Core.Path.{◌≡◌}
 use Prim.Native.Nat.{ℕ, ◌+◌}
 use Rattle.bits.specs.Sets.{member}
 use Rattle.index.specs.Index.{IndexOf}
 use Rattle.pending.specs.Pending.{Working, Closing, left}
-use Rattle.pending.proofs.Closing.{closing_starts, closed_there, step_falls, none_left}
 use Rattle.pending.proofs.close.Given as goal
 
 abbrev pub invariant-loop-again : goal.invariant-loop-again

@@ -1,9 +1,7 @@
-use borrow.Author.Rules.{rules}
-use Prim.Native.Nat.{◌-◌}
-use mathlib.Core.Path.{◌≡◌, ap, ◌∙◌}
+use mathlib.Core.Path.{ap, ◌∙◌}
 use lib.ListN.{length}
 use Rattle.bits.specs.Sets.{member}
-use Rattle.pending.proofs.Marked.{Marking-below, marking_starts, marking_goes_on, marking_ends, length_pair}
+use Rattle.pending.proofs.Marked.{marking_starts, marking_goes_on, marking_ends, length_pair}
 use Rattle.pending.proofs.put_marked.Goals as goal
 
 pub loop-a-init : goal.loop-a-init
@@ -11,13 +9,12 @@ loop-a-init c =
     (c.requires.0, c.requires.1, marking_starts _ _)
 
 pub loop-a-preserved : goal.loop-a-preserved
-loop-a-preserved c =
-    (
-      ap length c.put_pair.ensures
-          ∙ length_pair c.loop-a.set c.loop-a.a (member c.args.marks.now c.loop-a.a) ∙ c.loop-a.invariant.0,
-      c.loop-a.invariant.1,
-      marking_goes_on _ _ _ _ _ c.loop-a.invariant.0 c.loop-a-test.true c.loop-a.invariant.2 c.put_pair.ensures,
-    )
+loop-a-preserved c = (
+  ap length c.put_pair.ensures
+      ∙ length_pair c.loop-a.set c.loop-a.a (member c.args.marks.now c.loop-a.a) ∙ c.loop-a.invariant.0,
+  c.loop-a.invariant.1,
+  marking_goes_on _ _ _ _ _ c.loop-a.invariant.0 c.loop-a-test.true c.loop-a.invariant.2 c.put_pair.ensures,
+)
 
 pub returns : goal.returns
 returns c =

@@ -1,9 +1,8 @@
-use borrow.Author.Rules.{rules}
 use Prim.Native.Nat.{◌-◌}
-use mathlib.Core.Path.{◌≡◌, ap, ◌∙◌}
+use mathlib.Core.Path.{◌≡◌}
 use lib.ListN.{length}
 use Rattle.bits.specs.Sets.{member}
-use Rattle.pending.proofs.Marked.{Marking-below, marking_starts, marking_goes_on, marking_ends, length_pair}
+use Rattle.pending.proofs.Marked.{Marking-below}
 use Rattle.pending.proofs.put_marked.Given as goal
 
 abbrev pub invariant-loop-a : goal.invariant-loop-a

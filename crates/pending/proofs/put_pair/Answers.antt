@@ -1,4 +1,3 @@
-use borrow.Author.Rules.{rules}
 use mathlib.Core.Path.{sym, ap, ◌∙◌}
 use Rattle.pending.specs.Pending.{with_pair}
 use Rattle.pending.proofs.put_pair.Goals as goal

@@ -1,10 +1,8 @@
-use borrow.Author.Rules.{rules}
 use mathlib.Core.Path.{refl, sym, ◌∙◌}
 use native.Mathlib.Omega.{arith}
-use Rattle.bits.specs.Sets.{member}
 use Rattle.index.specs.Index.{owner_in}
 use Rattle.index.proofs.Placed.{table_short}
-use Rattle.pending.proofs.Laws.{Walking, walk_starts, walk_goes_on, walk_ends, place_inside, group_inside, few, walk_falls}
+use Rattle.pending.proofs.Laws.{walk_starts, walk_goes_on, walk_ends, place_inside, group_inside, few, walk_falls}
 use Rattle.pending.proofs.take.Goals as goal
 
 pub last-c-requires : goal.last-c-requires
@@ -16,34 +14,31 @@ loop-c-init c =
     walk_starts _ _ c.requires.0 _ _ c.requires.4 c.requires.3 _ _ c.requires.5 _ c.last-c.ensures
 
 pub owner-g-requires : goal.owner-g-requires
-owner-g-requires c =
-    (
-      c.requires.0.indexed.size,
-      place_inside _ _ c.requires.0 _ _ c.requires.4 _ _ _ _ (owner_in c.args.index.now c.loop-c.c) c.loop-c.invariant (omega (arith, c.loop-c-test.true)) refl,
-    )
+owner-g-requires c = (
+  c.requires.0.indexed.size,
+  place_inside _ _ c.requires.0 _ _ c.requires.4 _ _ _ _ (owner_in c.args.index.now c.loop-c.c) c.loop-c.invariant (omega (arith, c.loop-c-test.true)) refl,
+)
 
 pub count_place-requires : goal.count_place-requires
-count_place-requires c =
-    (
-      group_inside _ _ c.requires.0 _ _ c.requires.4 _ _ _ _ _ c.loop-c.invariant (omega (arith, c.loop-c-test.true)) c.owner-g.ensures,
-      c.requires.0.indexed.size,
-      omega (
-        arith,
-        group_inside _ _ c.requires.0 _ _ c.requires.4 _ _ _ _ _ c.loop-c.invariant (omega
-            (arith, c.loop-c-test.true)) c.owner-g.ensures,
-        table_short _ c.requires.0.table,
-      ),
-      c.loop-c.invariant.room,
-      few _ _ c.requires.0 _ _ c.requires.4 _ _ _ _ _ c.loop-c.invariant (omega (arith, c.loop-c-test.true)) c.owner-g.ensures,
-    )
+count_place-requires c = (
+  group_inside _ _ c.requires.0 _ _ c.requires.4 _ _ _ _ _ c.loop-c.invariant (omega (arith, c.loop-c-test.true)) c.owner-g.ensures,
+  c.requires.0.indexed.size,
+  omega (
+    arith,
+    group_inside _ _ c.requires.0 _ _ c.requires.4 _ _ _ _ _ c.loop-c.invariant (omega
+        (arith, c.loop-c-test.true)) c.owner-g.ensures,
+    table_short _ c.requires.0.table,
+  ),
+  c.loop-c.invariant.room,
+  few _ _ c.requires.0 _ _ c.requires.4 _ _ _ _ _ c.loop-c.invariant (omega (arith, c.loop-c-test.true)) c.owner-g.ensures,
+)
 
 pub earlier-c-requires : goal.earlier-c-requires
-earlier-c-requires c =
-    (
-      c.requires.0.indexed.size,
-      place_inside _ _ c.requires.0 _ _ c.requires.4 _ _ _ _ _ c.loop-c.invariant (omega (arith, c.loop-c-test.true))
-          c.owner-g.ensures,
-    )
+earlier-c-requires c = (
+  c.requires.0.indexed.size,
+  place_inside _ _ c.requires.0 _ _ c.requires.4 _ _ _ _ _ c.loop-c.invariant (omega (arith, c.loop-c-test.true))
+      c.owner-g.ensures,
+)
 
 pub loop-c-smaller : goal.loop-c-smaller
 loop-c-smaller c =

@@ -14,26 +14,24 @@ pub returns-then-has : goal.returns-then-has
 returns-then-has c = PickAllows.already_marked c.requires (true→T _ (sym c.has.ensures ∙ c.if-has.true))
 
 pub build-requires : goal.build-requires
-build-requires c =
-    (
-      accepted_table c.args.record.n c.args.table.now (pick_accepted c.args.record c.args.table.now c.args.atom c.requires).1,
-      refl,
-      refl,
-    )
+build-requires c = (
+  accepted_table c.args.record.n c.args.table.now (pick_accepted c.args.record c.args.table.now c.args.atom c.requires).1,
+  refl,
+  refl,
+)
 
 pub can_be_marked-requires : goal.can_be_marked-requires
-can_be_marked-requires c =
-    (
-      omega (
-        arith,
-        (record_good c.args.record (pick_accepted c.args.record c.args.table.now c.args.atom c.requires
-            ).0).at_most_512,
-        (pick_accepted c.args.record c.args.table.now c.args.atom c.requires).2,
-      ),
-      search rules,
-      c.build.ensures.index_of,
-      c.build.ensures.facts_of,
-    )
+can_be_marked-requires c = (
+  omega (
+    arith,
+    (record_good c.args.record (pick_accepted c.args.record c.args.table.now c.args.atom c.requires
+        ).0).at_most_512,
+    (pick_accepted c.args.record c.args.table.now c.args.atom c.requires).2,
+  ),
+  search rules,
+  c.build.ensures.index_of,
+  c.build.ensures.facts_of,
+)
 
 pub with_mark-marked-requires : goal.with_mark-marked-requires
 with_mark-marked-requires c =

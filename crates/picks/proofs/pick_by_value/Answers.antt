@@ -1,4 +1,3 @@
-use borrow.Author.Rules.{rules}
 use mathlib.Core.Path.{sym, ◌∙◌}
 use Rattle.picks.specs.Entries.{PickAllows}
 use Rattle.picks.proofs.pick_by_value.Goals as goal

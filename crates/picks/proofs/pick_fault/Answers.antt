@@ -1,4 +1,3 @@
-use borrow.Author.Rules.{rules}
 use Rattle.picks.specs.Faults.{pick_fault}
 use Rattle.picks.proofs.pick_fault.Goals as goal
 

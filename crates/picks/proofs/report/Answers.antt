@@ -1,4 +1,3 @@
-use borrow.Author.Rules.{rules}
 use mathlib.Core.Path.{sym, ◌∙◌}
 use Rattle.picks.specs.Entries.{ReportAllows}
 use Rattle.picks.proofs.report.Goals as goal

@@ -1,4 +1,3 @@
-use borrow.Author.Rules.{rules}
 use Rattle.picks.specs.Faults.{report_fault}
 use Rattle.picks.proofs.report_fault.Goals as goal
 

@@ -10,23 +10,21 @@ use Rattle.picks.specs.Entries.{ReportAllows}
 use Rattle.picks.proofs.report_settled.Goals as goal
 
 pub build-requires : goal.build-requires
-build-requires c =
-    (
-      accepted_table c.args.record.n c.args.table.now (report_accepted c.args.record c.args.table.now (length c.args.values.now) c.requires).1,
-      refl,
-      refl,
-    )
+build-requires c = (
+  accepted_table c.args.record.n c.args.table.now (report_accepted c.args.record c.args.table.now (length c.args.values.now) c.requires).1,
+  refl,
+  refl,
+)
 
 pub can_go_on-goes_on-requires : goal.can_go_on-goes_on-requires
-can_go_on-goes_on-requires c =
-    (
-      (record_good _ (report_accepted c.args.record c.args.table.now (length c.args.values.now) c.requires).0).at_most_512,
-      search rules,
-      c.build.ensures.index_of,
-      c.build.ensures.facts_of,
-      accepted_heads c.args.record.n c.args.table.now (report_accepted
-          c.args.record c.args.table.now (length c.args.values.now) c.requires).1,
-    )
+can_go_on-goes_on-requires c = (
+  (record_good _ (report_accepted c.args.record c.args.table.now (length c.args.values.now) c.requires).0).at_most_512,
+  search rules,
+  c.build.ensures.index_of,
+  c.build.ensures.facts_of,
+  accepted_heads c.args.record.n c.args.table.now (report_accepted
+      c.args.record c.args.table.now (length c.args.values.now) c.requires).1,
+)
 
 pub returns-then-goes_on : goal.returns-then-goes_on
 returns-then-goes_on c =
@@ -37,11 +35,10 @@ held-held-requires c =
     (c.build.ensures.index_of, c.build.ensures.facts_of, search rules)
 
 pub write_values-requires : goal.write_values-requires
-write_values-requires c =
-    (
-      (record_good _ (report_accepted c.args.record c.args.table.now (length c.args.values.now) c.requires).0).at_most_512,
-      (report_accepted c.args.record c.args.table.now (length c.args.values.now) c.requires).2,
-    )
+write_values-requires c = (
+  (record_good _ (report_accepted c.args.record c.args.table.now (length c.args.values.now) c.requires).0).at_most_512,
+  (report_accepted c.args.record c.args.table.now (length c.args.values.now) c.requires).2,
+)
 
 pub returns : goal.returns
 returns c =

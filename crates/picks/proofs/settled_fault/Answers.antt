@@ -1,4 +1,3 @@
-use borrow.Author.Rules.{rules}
 use Rattle.picks.specs.Faults.{settled_fault}
 use Rattle.picks.proofs.settled_fault.Goals as goal
 

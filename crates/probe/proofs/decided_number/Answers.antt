@@ -1,4 +1,3 @@
-use Rattle.std.proofs.Common.{rules}
 use Rattle.probe.proofs.decided_number.Goals as goal
 
 pub returns-in-Refused : goal.returns-in-Refused

@@ -1,4 +1,3 @@
-use Rattle.std.proofs.Common.{rules}
 use Rattle.probe.proofs.literal_number.Goals as goal
 
 pub returns-then-l : goal.returns-then-l

@@ -1,5 +1,4 @@
 use Rattle.probe.specs.Packed.{ConflictPacked}
-use Rattle.std.proofs.Common.{rules}
 use Rattle.probe.proofs.probe_conflict.Goals as goal
 
 pub returns : goal.returns

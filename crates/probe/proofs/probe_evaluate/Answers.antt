@@ -1,4 +1,3 @@
-use Rattle.std.proofs.Common.{rules}
 use Rattle.probe.specs.Packed.{EvaluationPacked}
 use Rattle.probe.proofs.probe_evaluate.Goals as goal
 

@@ -1,5 +1,4 @@
 use Rattle.probe.specs.Packed.{FreshPacked}
-use Rattle.std.proofs.Common.{rules}
 use Rattle.probe.proofs.probe_fresh.Goals as goal
 
 pub returns : goal.returns

@@ -1,4 +1,4 @@
-use Rattle.std.proofs.Common.{ap, ◌∙◌, rules}
+use Rattle.std.proofs.Common.{ap, ◌∙◌}
 use Rattle.probe.specs.Packed.{numbered_number}
 use Rattle.probe.proofs.probe_implication.Goals as goal
 

@@ -1,5 +1,4 @@
 use Rattle.probe.specs.Packed.{CountPacked}
-use Rattle.std.proofs.Common.{rules}
 use Rattle.probe.proofs.probe_mark_count.Goals as goal
 
 pub returns : goal.returns

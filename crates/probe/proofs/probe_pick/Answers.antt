@@ -1,5 +1,4 @@
 use Rattle.probe.specs.Packed.{PickPacked}
-use Rattle.std.proofs.Common.{rules}
 use Rattle.probe.proofs.probe_pick.Goals as goal
 
 pub returns : goal.returns

@@ -1,4 +1,4 @@
-use Rattle.std.proofs.Common.{ap, ◌∙◌, rules}
+use Rattle.std.proofs.Common.{ap, ◌∙◌}
 use Rattle.probe.specs.Packed.{reading_number, name_start, name_length}
 use Rattle.probe.proofs.probe_reader.Goals as goal
 

@@ -1,5 +1,4 @@
 use Rattle.probe.specs.Packed.{ReportPacked}
-use Rattle.std.proofs.Common.{rules}
 use Rattle.probe.proofs.probe_report.Goals as goal
 
 pub returns : goal.returns

@@ -1,5 +1,4 @@
 use Rattle.probe.specs.Packed.{SheetPacked}
-use Rattle.std.proofs.Common.{rules}
 use Rattle.probe.proofs.probe_sheet.Goals as goal
 
 pub returns : goal.returns

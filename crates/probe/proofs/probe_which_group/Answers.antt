@@ -1,4 +1,4 @@
-use Rattle.std.proofs.Common.{sym, ◌∙◌, rules}
+use Rattle.std.proofs.Common.{sym, ◌∙◌}
 use mathlib.Core.Path.{subst⁻¹}
 use Rattle.bits.specs.Sets.{member}
 use Rattle.words.specs.Check.{AcceptedTable}

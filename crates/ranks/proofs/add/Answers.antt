@@ -1,4 +1,3 @@
-use borrow.Author.Rules.{rules}
 use native.Mathlib.Omega.{arith}
 use Rattle.ranks.specs.Found.{found}
 use Rattle.ranks.proofs.Adding.{adding_line, adding_pair, line_added_fit}
@@ -14,8 +13,7 @@ returns-then-many-eq1 c =
 
 pub add_negation-requires : goal.add_negation-requires
 add_negation-requires c =
-    let args = c.args in
-    (
+    let args = c.args in (
       line_added_fit (found args.ranked.now args.lines.now args.rank) args.head args.group c.requires.1 c.add_line-after.ensures.result_after,
       c.requires.1.head_literal,
       c.requires.1.group_fits,

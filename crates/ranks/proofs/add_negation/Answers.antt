@@ -1,4 +1,3 @@
-use borrow.Author.Rules.{rules}
 use Rattle.ranks.specs.Found.{found}
 use Rattle.ranks.proofs.Adding.{negation_has_line, negation_gets_line, negation_addable}
 use Rattle.ranks.proofs.Counted.{counted_nothing}
@@ -14,8 +13,7 @@ returns-then-has c =
 
 pub add_line-requires : goal.add_line-requires
 add_line-requires c =
-    let args = c.args in
-    (
+    let args = c.args in (
       negation_addable (found args.ranked.now args.lines.now args.rank) args.head args.group
           c.has.ensures c.if-has.false c.requires.0 c.requires.1 c.requires.2,
       c.requires.3,

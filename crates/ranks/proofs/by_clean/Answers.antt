@@ -1,4 +1,3 @@
-use borrow.Author.Rules.{rules}
 use Rattle.words.specs.RecordAt.{rule_at}
 use Rattle.ranks.proofs.Adding.{clean_first, ranked_second}
 use Rattle.ranks.proofs.by_clean.Goals as goal

@@ -1,4 +1,3 @@
-use borrow.Author.Rules.{rules}
 use Rattle.words.specs.RecordAt.{rule_at}
 use Rattle.ranks.proofs.Adding.{lines_by_lem, nothing_by}
 use Rattle.ranks.proofs.by_row.Goals as goal

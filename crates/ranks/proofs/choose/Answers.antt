@@ -1,4 +1,3 @@
-use borrow.Author.Rules.{rules}
 use Rattle.bits.specs.Sets.{member}
 use Rattle.ranks.proofs.Adding.{adds_nothing, adds_by_clean, adds_by_ranked}
 use Rattle.ranks.proofs.choose.Goals as goal

@@ -1,4 +1,3 @@
-use borrow.Author.Rules.{rules}
 use Rattle.bits.specs.Sets.{member}
 use Rattle.ranks.proofs.Adding.{turn_ranked, turn_marked, turn_unmarked}
 use Rattle.ranks.proofs.not_its_turn.Goals as goal

@@ -1,4 +1,3 @@
-use borrow.Author.Rules.{rules}
 use mathlib.Core.Path.{◌∙◌}
 use Rattle.reader.specs.Sheet.{byte_before}
 use Rattle.reader.proofs.Runs.{byte_before_some}

@@ -1,4 +1,3 @@
-use borrow.Author.Rules.{rules}
 use borrow.Author.Tests.{eq-eqb, ne_eqb}
 use Rattle.reader.specs.Sheet.{may_follow}
 use Rattle.reader.proofs.ends_in_group.Goals as goal

@@ -1,4 +1,3 @@
-use borrow.Author.Rules.{rules}
 use borrow.Author.Tests.{eq-eqb, ne_eqb}
 use Rattle.reader.specs.Readings.{line_at}
 use Rattle.reader.proofs.line_at.Goals as goal

@@ -1,4 +1,3 @@
-use borrow.Author.Rules.{rules}
 use mathlib.Core.Path.{sym}
 use Rattle.reader.specs.Sheet.{may_follow}
 use Rattle.reader.proofs.may_follow.Goals as goal

@@ -1,9 +1,6 @@
-use borrow.Author.Rules.{rules}
-use mathlib.Core.Path.{◌≡◌, ap, ◌∙◌}
-use Prim.Native.Nat.{◌+◌, ◌-◌, ◌≤◌}
+use mathlib.Core.Path.{ap, ◌∙◌}
 use native.Mathlib.Omega.{arith}
-use lib.ListN.{length, drop}
-use Rattle.reader.specs.Sheet.{name_run, continues_name}
+use Rattle.reader.specs.Sheet.{continues_name}
 use Rattle.reader.proofs.Runs.{run_starts, run_more, run_ended}
 use Rattle.reader.proofs.name_run.Goals as goal
 

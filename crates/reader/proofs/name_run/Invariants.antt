@@ -1,10 +1,7 @@
-use borrow.Author.Rules.{rules}
-use mathlib.Core.Path.{◌≡◌, ap, ◌∙◌}
+use mathlib.Core.Path.{◌≡◌}
 use Prim.Native.Nat.{◌+◌, ◌-◌, ◌≤◌}
-use native.Mathlib.Omega.{arith}
 use lib.ListN.{length, drop}
-use Rattle.reader.specs.Sheet.{name_run, continues_name}
-use Rattle.reader.proofs.Runs.{run_starts, run_more, run_ended}
+use Rattle.reader.specs.Sheet.{name_run}
 use Rattle.reader.proofs.name_run.Given as goal
 
 abbrev pub invariant-loop-n : goal.invariant-loop-n

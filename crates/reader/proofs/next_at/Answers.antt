@@ -1,4 +1,3 @@
-use borrow.Author.Rules.{rules}
 use mathlib.Core.Path.{sym}
 use Rattle.reader.specs.Readings.{next_at}
 use Rattle.reader.proofs.Laws.{place_fits}

@@ -1,4 +1,3 @@
-use borrow.Author.Rules.{rules}
 use borrow.Author.Tests.{eq-eqb, ne_eqb}
 use Rattle.reader.specs.Readings.{reading_after}
 use Rattle.reader.proofs.reading_after.Goals as goal

@@ -1,7 +1,6 @@
 use mathlib.Core.Path.{sym, ◌∙◌}
 use Rattle.evaluation.proofs.Evaluated.{evaluation_accepted}
 use Rattle.reasoncheck.proofs.Checks.{fault_first, fault_codes}
-use borrow.Author.Rules.{rules}
 use Rattle.reasoncheck.proofs.check_fault.Goals as goal
 
 pub returns-in-Refused : goal.returns-in-Refused

@@ -1,6 +1,5 @@
 use mathlib.Core.Path.{sym, ◌∙◌}
 use Rattle.reasoncheck.specs.ReasonCheck.{CheckAllows}
-use borrow.Author.Rules.{rules}
 use Rattle.reasoncheck.proofs.check_reasons.Goals as goal
 
 pub returns-in-Refused : goal.returns-in-Refused

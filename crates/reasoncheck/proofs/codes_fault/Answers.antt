@@ -1,10 +1,6 @@
-use Prim.Native.Nat.{◌-◌}
 use native.Mathlib.Omega.{arith}
-use mathlib.Core.Path.{◌≡◌, refl, ◌∙◌}
-use lib.ListN.{take, drop}
-use Rattle.reasoncheck.specs.ReasonCheck.{codes_fault}
+use mathlib.Core.Path.{refl, ◌∙◌}
 use Rattle.reasoncheck.proofs.Checks.{code_good, code_bad, code_end}
-use borrow.Author.Rules.{rules}
 use Rattle.reasoncheck.proofs.codes_fault.Goals as goal
 
 pub loop-a-init : goal.loop-a-init

@@ -1,10 +1,7 @@
 use Prim.Native.Nat.{◌-◌}
-use native.Mathlib.Omega.{arith}
-use mathlib.Core.Path.{◌≡◌, refl, ◌∙◌}
+use mathlib.Core.Path.{◌≡◌}
 use lib.ListN.{take, drop}
 use Rattle.reasoncheck.specs.ReasonCheck.{codes_fault}
-use Rattle.reasoncheck.proofs.Checks.{code_good, code_bad, code_end}
-use borrow.Author.Rules.{rules}
 use Rattle.reasoncheck.proofs.codes_fault.Given as goal
 
 abbrev pub invariant-loop-a : goal.invariant-loop-a

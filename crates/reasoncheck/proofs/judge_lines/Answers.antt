@@ -2,7 +2,6 @@ use mathlib.Core.Path.{refl}
 use Rattle.words.proofs.Laws.{accepted_atoms}
 use Rattle.reasoncheck.proofs.Checks.{refused_judged, accepted_matched}
 use Rattle.reasoncheck.proofs.Held.{judged}
-use borrow.Author.Rules.{rules}
 use Rattle.reasoncheck.proofs.judge_lines.Goals as goal
 
 pub match_lines-requires : goal.match_lines-requires

@@ -5,7 +5,6 @@ use Rattle.reasontext.specs.Reading.{TextRead, read_text, lines_in}
 use Rattle.reasontext.proofs.Texts.{read_lines, good_read}
 use Rattle.reasoncheck.proofs.Rooms.{room_holds}
 use Rattle.reasoncheck.proofs.Checks.{check_sound, text_refused, model_refused, lines_judged}
-use borrow.Author.Rules.{rules}
 use Rattle.reasoncheck.proofs.judge_text.Goals as goal
 
 pub returns-in-Refused : goal.returns-in-Refused

@@ -1,5 +1,4 @@
 use mathlib.Core.Path.{sym}
-use borrow.Author.Rules.{rules}
 use Rattle.reasoncheck.proofs.line_after.Goals as goal
 
 -- src/lib.rt:124:1

@@ -1,15 +1,8 @@
-use Prim.Native.Nat.{◌*◌, ◌-◌}
 use native.Mathlib.Omega.{arith}
-use mathlib.Core.Bool.{◌&&◌}
 use mathlib.Core.Path.{subst⁻¹}
-use lib.Dec.{leb}
-use Rattle.limits.specs.Limits.{most_rank}
-use Rattle.bits.specs.Sets.{member}
-use Rattle.justified.specs.ByLiteral.{rank_in}
 use Rattle.values.specs.Given.{given}
 use Rattle.reasoncheck.specs.Matching.{LinesAllow}
-use Rattle.reasoncheck.proofs.Matches.{Passing, passing_start, passing_next, passing_fails, passing_end, below_length}
-use borrow.Author.Rules.{rules}
+use Rattle.reasoncheck.proofs.Matches.{passing_start, passing_next, passing_fails, passing_end, below_length}
 use Rattle.reasoncheck.proofs.line_fault.Goals as goal
 
 pub loop-l-init : goal.loop-l-init

@@ -1,6 +1,5 @@
 use mathlib.Core.Path.{sym}
 use borrow.Author.Tests.{le-leb, lt-leb}
-use borrow.Author.Rules.{rules}
 use Rattle.reasoncheck.proofs.line_holds.Goals as goal
 
 -- src/lib.rt:98:1

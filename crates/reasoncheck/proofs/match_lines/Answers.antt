@@ -1,14 +1,9 @@
-use Prim.Native.Nat.{◌*◌, ◌-◌, ◌≤◌}
+use Prim.Native.Nat.{◌*◌}
 use native.Mathlib.Numerals.{add-one}
 use native.Mathlib.Omega.{arith}
-use mathlib.Core.List.{List}
 use mathlib.Core.Path.{◌≡◌, sym, ap, ◌∙◌}
 use lib.ListN.{length}
-use Rattle.values.specs.Given.{given}
-use Rattle.reasontext.specs.ReasonSheet.{ReasonLine}
-use Rattle.reasoncheck.specs.Matching.{NumbersHold}
-use Rattle.reasoncheck.proofs.Matches.{Matching, matching_start, matching_next, matching_apart, matching_surplus, matching_all, one_count, one_length, apart_at}
-use borrow.Author.Rules.{rules}
+use Rattle.reasoncheck.proofs.Matches.{matching_start, matching_next, matching_apart, matching_surplus, matching_all, one_count, one_length, apart_at}
 use Rattle.reasoncheck.proofs.match_lines.Goals as goal
 
 pub loop-l-init : goal.loop-l-init
@@ -30,8 +25,7 @@ match_literal-m-requires c =
 
 pub loop-l-preserved : goal.loop-l-preserved
 loop-l-preserved c =
-    let v = c.loop-l.invariant in
-    (
+    let v = c.loop-l.invariant in (
       omega (arith, v.0, one_count c.match_literal-m.ensures),
       omega (arith, c.loop-l-test.true),
       one_length c.match_literal-m.ensures ∙ v.2,

@@ -2,7 +2,6 @@ use mathlib.Core.Path.{sym, ◌∙◌}
 use native.Mathlib.Omega.{arith}
 use Rattle.reasoncheck.specs.Matching.{wants_none, has_not}
 use Rattle.reasoncheck.proofs.Matches.{matched_own, matched_other}
-use borrow.Author.Rules.{rules}
 use Rattle.reasoncheck.proofs.match_literal.Goals as goal
 
 pub returns-then-word-l : goal.returns-then-word-l

@@ -1,5 +1,4 @@
 use Rattle.reasoncheck.proofs.Matches.{line_stored}
-use borrow.Author.Rules.{rules}
 use Rattle.reasoncheck.proofs.take_line.Goals as goal
 
 pub returns : goal.returns

@@ -1,5 +1,4 @@
 use mathlib.Core.Path.{sym}
-use borrow.Author.Rules.{rules}
 use Rattle.reasoncheck.proofs.wants_in_vain.Goals as goal
 
 -- src/lib.rt:116:13

@@ -1,4 +1,3 @@
-use borrow.Author.Rules.{rules}
 use Rattle.values.specs.Given.{given}
 use Rattle.reasoncheck.proofs.Matches.{wants_is}
 use Rattle.reasoncheck.proofs.wants_line.Goals as goal

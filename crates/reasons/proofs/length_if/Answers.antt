@@ -2,7 +2,6 @@ use mathlib.Core.Path.{ap, ◌∙◌}
 use native.Mathlib.Omega.{arith}
 use lib.ListN.{length}
 use Rattle.reasons.proofs.Growing.{has_line, has_none}
-use borrow.Author.Rules.{rules}
 use Rattle.reasons.proofs.length_if.Goals as goal
 
 pub returns-then-has : goal.returns-then-has

@@ -1,7 +1,6 @@
 use Rattle.reasons.proofs.Writing.{printed_none, printed_fits}
 use mathlib.Core.Path.{ap}
 use Rattle.refusal.specs.declared.Numbered.{Numbered}
-use borrow.Author.Rules.{rules}
 use Rattle.reasons.proofs.print_sheet.Goals as goal
 
 pub returns-then-text-needed : goal.returns-then-text-needed

@@ -5,7 +5,6 @@ use Prim.Native.Nat.{ℕ, ◌+◌}
 use lib.ListN.{length}
 use lib.Seq.{sets}
 use Rattle.reasons.proofs.Growing.{has_line, has_none}
-use borrow.Author.Rules.{rules}
 use Rattle.reasons.proofs.put_if.Goals as goal
 
 pub put_of-requires : goal.put_of-requires

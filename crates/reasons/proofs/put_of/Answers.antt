@@ -5,20 +5,18 @@ use lib.ListN.{length}
 use lib.Seq.{sets}
 use Rattle.reasontext.specs.ReasonSheet.{ReasonLine, line_text}
 use Rattle.reasons.proofs.Growing.{line_read}
-use borrow.Author.Rules.{rules}
 use Rattle.reasons.proofs.put_of.Goals as goal
 
 pub put_line-requires : goal.put_line-requires
-put_line-requires c =
-    (
-      omega (arith, c.requires.0),
-      c.word-rank.ensures.upper_bound,
-      c.word-head.ensures.upper_bound,
-      c.word-group.ensures.upper_bound,
-      subst⁻¹ (λ (x : ReasonLine). c.args.at + length (line_text x) ≤ length c.args.text.now)
-          (line_read c.args.lines.now c.args.l c.word-rank.ensures.value c.word-head.ensures.value
-          c.word-group.ensures.value) c.requires.1,
-    )
+put_line-requires c = (
+  omega (arith, c.requires.0),
+  c.word-rank.ensures.upper_bound,
+  c.word-head.ensures.upper_bound,
+  c.word-group.ensures.upper_bound,
+  subst⁻¹ (λ (x : ReasonLine). c.args.at + length (line_text x) ≤ length c.args.text.now)
+      (line_read c.args.lines.now c.args.l c.word-rank.ensures.value c.word-head.ensures.value
+      c.word-group.ensures.value) c.requires.1,
+)
 
 pub returns : goal.returns
 returns c =

@@ -1,12 +1,9 @@
-use mathlib.Core.Path.{◌≡◌, refl, sym, ap, ◌∙◌}
-use native.Mathlib.Omega.{arith}
+use mathlib.Core.Path.{◌≡◌}
 use Prim.Native.Nat.{◌-◌, ◌≤◌}
 use lib.ListN.{length}
-use lib.Seq.{sets, length-sets}
+use lib.Seq.{sets}
 use Rattle.reasontext.specs.ReasonSheet.{reason_text}
 use Rattle.reasons.specs.Sheet.{lines_found}
-use Rattle.reasons.proofs.Growing.{sheet_start, length_next, next_fits, next_put}
-use borrow.Author.Rules.{rules}
 use Rattle.reasons.proofs.put_sheet.Given as goal
 
 abbrev pub invariant-loop-l : goal.invariant-loop-l

@@ -1,11 +1,9 @@
 use mathlib.Core.Path.{◌≡◌, sym, ap, ◌∙◌}
 use native.Mathlib.Omega.{arith}
-use Prim.Native.Nat.{◌*◌, ◌-◌, ◌≤◌}
 use lib.ListN.{length}
 use Rattle.reasontext.specs.ReasonSheet.{reason_text}
 use Rattle.reasons.specs.Sheet.{lines_found}
 use Rattle.reasons.proofs.Growing.{sheet_start, length_next}
-use borrow.Author.Rules.{rules}
 use Rattle.reasons.proofs.sheet_length.Goals as goal
 
 pub loop-l-init : goal.loop-l-init

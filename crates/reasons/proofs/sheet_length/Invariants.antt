@@ -1,11 +1,8 @@
-use mathlib.Core.Path.{◌≡◌, sym, ap, ◌∙◌}
-use native.Mathlib.Omega.{arith}
+use mathlib.Core.Path.{◌≡◌}
 use Prim.Native.Nat.{◌*◌, ◌-◌, ◌≤◌}
 use lib.ListN.{length}
 use Rattle.reasontext.specs.ReasonSheet.{reason_text}
 use Rattle.reasons.specs.Sheet.{lines_found}
-use Rattle.reasons.proofs.Growing.{sheet_start, length_next}
-use borrow.Author.Rules.{rules}
 use Rattle.reasons.proofs.sheet_length.Given as goal
 
 abbrev pub invariant-loop-l : goal.invariant-loop-l

@@ -1,6 +1,5 @@
 use mathlib.Core.Path.{sym, ◌∙◌}
 use Rattle.reasons.specs.Reasons.{ReasonsAllows}
-use borrow.Author.Rules.{rules}
 use Rattle.reasons.proofs.write_reasons.Goals as goal
 
 pub returns-in-Refused : goal.returns-in-Refused

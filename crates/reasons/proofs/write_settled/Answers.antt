@@ -1,4 +1,3 @@
-use borrow.Author.Rules.{rules}
 use native.Mathlib.Omega.{arith}
 use mathlib.Core.Path.{refl}
 use Rattle.words.proofs.Laws.{accepted_atoms, accepted_heads}
@@ -11,13 +10,12 @@ build-requires c =
     (accepted_table c.args.n c.args.table.now c.requires, refl, refl)
 
 pub settle-m-requires : goal.settle-m-requires
-settle-m-requires c =
-    (
-      accepted_atoms c.args.n c.args.table.now c.requires,
-      c.build.ensures.index_of,
-      c.build.ensures.facts_of,
-      accepted_heads c.args.n c.args.table.now c.requires,
-    )
+settle-m-requires c = (
+  accepted_atoms c.args.n c.args.table.now c.requires,
+  c.build.ensures.index_of,
+  c.build.ensures.facts_of,
+  accepted_heads c.args.n c.args.table.now c.requires,
+)
 
 pub find_reasons-found-requires : goal.find_reasons-found-requires
 find_reasons-found-requires c = c.build.ensures.index_of

@@ -1,6 +1,5 @@
 use mathlib.Core.Path.{sym, ◌∙◌}
 use Rattle.reasontext.proofs.Texts.{digit_bounds}
-use borrow.Author.Rules.{rules}
 use Rattle.reasontext.proofs.after_byte.Goals as goal
 
 -- src/lib.rt:97:21

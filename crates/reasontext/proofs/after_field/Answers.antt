@@ -1,5 +1,4 @@
 use borrow.Author.Tests.{eq-eqb, ne_eqb}
-use borrow.Author.Rules.{rules}
 use Rattle.reasontext.proofs.after_field.Goals as goal
 
 -- src/lib.rt:27:1

@@ -1,6 +1,5 @@
 use Rattle.reasontext.specs.Reading.{breaks}
 use mathlib.Core.Path.{sym}
-use borrow.Author.Rules.{rules}
 use Rattle.reasontext.proofs.breaks_text.Goals as goal
 
 -- src/lib.rt:76:1

@@ -1,5 +1,4 @@
 use mathlib.Core.Path.{sym}
-use borrow.Author.Rules.{rules}
 use Rattle.reasontext.proofs.digit_breaks.Goals as goal
 
 -- src/lib.rt:55:13

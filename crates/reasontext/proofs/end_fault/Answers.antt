@@ -1,7 +1,6 @@
 use Rattle.reasontext.specs.Reading.{at_end}
 use mathlib.Core.Path.{sym}
 use borrow.Author.Tests.{eq-eqb, ne_eqb}
-use borrow.Author.Rules.{rules}
 use Rattle.reasontext.proofs.end_fault.Goals as goal
 
 -- src/lib.rt:131:13

@@ -1,7 +1,6 @@
 use native.Mathlib.Omega.{arith}
 use Rattle.decimals.proofs.Laws.{length_five}
 use Rattle.reasontext.proofs.Printing.{length_line, line_short}
-use borrow.Author.Rules.{rules}
 use Rattle.reasontext.proofs.line_length.Goals as goal
 
 pub overflow_add-result : goal.overflow_add-result

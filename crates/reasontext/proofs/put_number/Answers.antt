@@ -5,7 +5,6 @@ use lib.ListN.{length, length-append}
 use lib.Seq.{length-sets}
 use Rattle.decimals.specs.Decimals.{decimal}
 use Rattle.reasontext.proofs.Printing.{put_then}
-use borrow.Author.Rules.{rules}
 use Rattle.reasontext.proofs.put_number.Goals as goal
 
 pub put_decimal-behind-requires : goal.put_decimal-behind-requires

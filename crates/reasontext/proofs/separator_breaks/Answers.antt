@@ -1,6 +1,5 @@
 use mathlib.Core.Path.{sym}
 use borrow.Author.Tests.{eq-eqb, ne_eqb}
-use borrow.Author.Rules.{rules}
 use Rattle.reasontext.proofs.separator_breaks.Goals as goal
 
 -- src/lib.rt:68:13

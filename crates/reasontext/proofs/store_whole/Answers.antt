@@ -1,7 +1,6 @@
 use mathlib.Core.Path.{sym}
 use borrow.Author.Tests.{lt-ltb}
 use lib.Seq.{set_out}
-use borrow.Author.Rules.{rules}
 use Rattle.reasontext.proofs.store_whole.Goals as goal
 
 -- src/lib.rt:115:9

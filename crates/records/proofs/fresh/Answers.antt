@@ -1,4 +1,3 @@
-use borrow.Author.Rules.{rules}
 use borrow.Author.Tests.{le-leb, lt-leb}
 use Rattle.records.specs.Records.{FreshAllows}
 use Rattle.records.proofs.fresh.Goals as goal

@@ -1,4 +1,3 @@
-use borrow.Author.Rules.{rules}
 use mathlib.Core.Path.{sym, ◌∙◌}
 use Rattle.records.specs.Records.{CountAllows}
 use Rattle.records.proofs.mark_count.Goals as goal

@@ -1,9 +1,5 @@
-use borrow.Author.Rules.{rules}
-use Prim.Native.Nat.{◌≤◌, ◌+◌}
 use native.Mathlib.Omega.{arith}
-use mathlib.Core.Path.{◌≡◌, refl}
-use Rattle.bits.specs.Sets.{member}
-use Rattle.records.specs.Records.{marks_from}
+use mathlib.Core.Path.{refl}
 use Rattle.records.proofs.Turns.{marks_go_on, marks_found, marks_end}
 use Rattle.records.proofs.marks_from.Goals as goal
 
@@ -16,11 +12,10 @@ returns-then-has c =
     marks_found _ c.loop-left.at c.loop-left.left _ c.loop-left-test.true c.has.ensures c.if-has.true c.loop-left.invariant.1
 
 pub loop-left-preserved : goal.loop-left-preserved
-loop-left-preserved c =
-    (
-      omega arith,
-      marks_go_on _ c.loop-left.at c.loop-left.left _ c.loop-left-test.true c.has.ensures c.if-has.false c.loop-left.invariant.1,
-    )
+loop-left-preserved c = (
+  omega arith,
+  marks_go_on _ c.loop-left.at c.loop-left.left _ c.loop-left-test.true c.has.ensures c.if-has.false c.loop-left.invariant.1,
+)
 
 pub returns : goal.returns
 returns c =

@@ -1,10 +1,7 @@
-use borrow.Author.Rules.{rules}
 use Prim.Native.Nat.{◌≤◌, ◌+◌}
-use native.Mathlib.Omega.{arith}
-use mathlib.Core.Path.{◌≡◌, refl}
+use mathlib.Core.Path.{◌≡◌}
 use Rattle.bits.specs.Sets.{member}
 use Rattle.records.specs.Records.{marks_from}
-use Rattle.records.proofs.Turns.{marks_go_on, marks_found, marks_end}
 use Rattle.records.proofs.marks_from.Given as goal
 
 abbrev pub invariant-loop-left : goal.invariant-loop-left

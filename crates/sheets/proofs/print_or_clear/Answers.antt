@@ -1,4 +1,3 @@
-use borrow.Author.Rules.{rules}
 use Rattle.sheets.proofs.Entry.{few_atoms, names_inside, prints, prints_nothing}
 use Rattle.sheets.proofs.print_or_clear.Goals as goal
 

@@ -1,4 +1,3 @@
-use borrow.Author.Rules.{rules}
 use Rattle.sheets.proofs.Entry.{holds_there, refuses, allows_there}
 use Rattle.sheets.proofs.read_sheet.Goals as goal
 

@@ -1,21 +1,15 @@
-use borrow.Author.Rules.{rules}
-use mathlib.Core.Path.{◌≡◌, refl, ◌∙◌}
-use Prim.Native.Nat.{◌+◌, ◌-◌}
-use lib.ListN.{length}
-use Rattle.sheetwords.specs.Sheets.{sheet_from}
-use Rattle.literals.specs.Literals.{nothing}
-use Rattle.sheetwords.proofs.Filling.{Filling, starts}
+use mathlib.Core.Path.{refl, ◌∙◌}
+use Rattle.sheetwords.proofs.Filling.{starts}
 use Rattle.sheetwords.proofs.Turns.{name_fits, ends, stops, faults, goes_on, falls}
 use Rattle.sheetwords.proofs.fill.Goals as goal
 
 pub loop-r-init : goal.loop-r-init
-loop-r-init c =
-    (
-      starts c.args.sheet.now _ c.args.words.now c.args.names.now _ refl
-          c.requires.most_words_in_bounds c.requires.most_atoms_in_bounds c.requires.words_value c.requires.names_value refl,
-      refl,
-      refl,
-    )
+loop-r-init c = (
+  starts c.args.sheet.now _ c.args.words.now c.args.names.now _ refl
+      c.requires.most_words_in_bounds c.requires.most_atoms_in_bounds c.requires.words_value c.requires.names_value refl,
+  refl,
+  refl,
+)
 
 pub shape_of-words-in-End : goal.shape_of-words-in-End
 shape_of-words-in-End c =
@@ -70,10 +64,9 @@ loop-r-smaller c =
     c.next_at-next.ensures _ c.in-Literal.is _ _ _ _ c.take_literal-taken.ensures
 
 pub loop-r-preserved : goal.loop-r-preserved
-loop-r-preserved c =
-    (
-      goes_on c.args.sheet.now _ c.loop-r.place c.loop-r.counts c.loop-r.words c.loop-r.names c.loop-r.heads c.loop-r.invariant.0 _
-          c.next_at-next.ensures _ c.in-Literal.is _ _ _ _ c.take_literal-taken.ensures _ c.in-On.is,
-      c.take_literal-taken.auto.words ∙ c.loop-r.invariant.1,
-      c.take_literal-taken.auto.names ∙ c.loop-r.invariant.2,
-    )
+loop-r-preserved c = (
+  goes_on c.args.sheet.now _ c.loop-r.place c.loop-r.counts c.loop-r.words c.loop-r.names c.loop-r.heads c.loop-r.invariant.0 _
+      c.next_at-next.ensures _ c.in-Literal.is _ _ _ _ c.take_literal-taken.ensures _ c.in-On.is,
+  c.take_literal-taken.auto.words ∙ c.loop-r.invariant.1,
+  c.take_literal-taken.auto.names ∙ c.loop-r.invariant.2,
+)

@@ -1,11 +1,9 @@
-use borrow.Author.Rules.{rules}
-use mathlib.Core.Path.{◌≡◌, refl, ◌∙◌}
+use mathlib.Core.Path.{◌≡◌}
 use Prim.Native.Nat.{◌+◌, ◌-◌}
 use lib.ListN.{length}
 use Rattle.sheetwords.specs.Sheets.{sheet_from}
 use Rattle.literals.specs.Literals.{nothing}
-use Rattle.sheetwords.proofs.Filling.{Filling, starts}
-use Rattle.sheetwords.proofs.Turns.{name_fits, ends, stops, faults, goes_on, falls}
+use Rattle.sheetwords.proofs.Filling.{Filling}
 use Rattle.sheetwords.proofs.fill.Given as goal
 
 abbrev pub invariant-loop-r : goal.invariant-loop-r

@@ -1,5 +1,4 @@
 use mathlib.Core.Path.{◌∙◌}
-use borrow.Author.Rules.{rules}
 use Rattle.paper.specs.Table1.{◌and◌}
 use Rattle.truth.proofs.Laws.{first_refused, second_refused, smaller_left, smaller_right}
 use Rattle.truth.proofs.and.Goals as goal

@@ -1,5 +1,4 @@
 use mathlib.Core.Path.{◌∙◌}
-use borrow.Author.Rules.{rules}
 use Rattle.paper.specs.Table1.{◌implies◌}
 use Rattle.truth.proofs.Laws.{first_refused, second_refused, looked_up}
 use Rattle.truth.proofs.implication.Goals as goal

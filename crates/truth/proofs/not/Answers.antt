@@ -1,5 +1,4 @@
 use mathlib.Core.Path.{sym, ap, ◌∙◌}
-use borrow.Author.Rules.{rules}
 use Rattle.paper.specs.Table1.{𝐟, 𝐭}
 use Rattle.truth.specs.Connectives.{negated}
 use Rattle.truth.proofs.Laws.{not_refused, not_is_table_1, kept}

@@ -1,5 +1,4 @@
 use mathlib.Core.Path.{◌∙◌}
-use borrow.Author.Rules.{rules}
 use Rattle.paper.specs.Table1.{◌or◌}
 use Rattle.truth.proofs.Laws.{first_refused, second_refused, larger_right, larger_left}
 use Rattle.truth.proofs.or.Goals as goal

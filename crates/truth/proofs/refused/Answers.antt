@@ -1,5 +1,4 @@
 use mathlib.Core.Path.{ap}
-use borrow.Author.Rules.{rules}
 use Rattle.refusal.specs.declared.Numbered.TheVariants.{Refused}
 use Rattle.truth.proofs.refused.Goals as goal
 

@@ -1,4 +1,3 @@
-use borrow.Author.Rules.{rules}
 use Rattle.values.specs.Given.{given}
 use Rattle.valued.proofs.Valuing.{body_none, body_some, fact_skipped}
 use mathlib.Core.Path.{sym}

@@ -1,13 +1,10 @@
-use borrow.Author.Rules.{rules}
 use mathlib.Core.Path.{◌≡◌}
 use Prim.Native.Nat.{◌+◌, ◌-◌, ◌≤◌, min}
-use native.Mathlib.Omega.{arith}
 use lib.ListN.{take, drop}
 use Rattle.paper.specs.Table1.{code}
 use Rattle.paper.specs.Definitions.{group_value}
 use Rattle.values.specs.Given.{given}
 use Rattle.valued.specs.Valued.{LiteralsBelow}
-use Rattle.valued.proofs.Valuing.{below_start, front_at, front_below, rest_below, group_start, group_turn, group_over}
 use Rattle.valued.proofs.group_code.Given as goal
 
 abbrev pub invariant-loop-i : goal.invariant-loop-i

@@ -1,15 +1,6 @@
-use borrow.Author.Rules.{rules}
-use mathlib.Core.Path.{◌≡◌, refl, ◌∙◌}
-use Prim.Native.Nat.{◌≤◌, max}
+use mathlib.Core.Path.{refl, ◌∙◌}
 use native.Mathlib.Omega.{arith}
-use lib.ListN.{length, drop}
-use Rattle.paper.specs.Table1.{code}
-use Rattle.paper.specs.Definitions.{any_value}
-use Rattle.words.specs.RecordAt.{WholeGroups}
-use Rattle.words.specs.Layout.{take_groups, drop_groups}
 use Rattle.least.proofs.Walk.{group_inside, group_fits, groups_go_on, groups_end}
-use Rattle.values.specs.Given.{given}
-use Rattle.valued.specs.Valued.{GroupsBelow}
 use Rattle.valued.proofs.Valuing.{any_turn, any_over, turned_below}
 use Rattle.valued.proofs.groups_code.Goals as goal
 

@@ -1,11 +1,7 @@
-use borrow.Author.Rules.{rules}
-use Prim.Native.Nat.{◌-◌}
 use native.Mathlib.Omega.{arith}
-use lib.ListN.{length}
 use Rattle.words.proofs.Laws.{accepted_heads, accepted_literals}
-use Rattle.values.specs.Given.{given}
 use Rattle.valued.proofs.Through.{this_record, this_of_table}
-use Rattle.valued.proofs.Modelled.{Satisfying, satisfying_start, satisfying_next, not_satisfied, all_of_table}
+use Rattle.valued.proofs.Modelled.{satisfying_start, satisfying_next, not_satisfied, all_of_table}
 use Rattle.valued.proofs.model_fault.Goals as goal
 
 pub loop-at-init : goal.loop-at-init

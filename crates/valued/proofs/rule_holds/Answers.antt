@@ -1,4 +1,3 @@
-use borrow.Author.Rules.{rules}
 use mathlib.Core.Path.{ap, ap₂, ◌∙◌}
 use Rattle.valued.specs.Valued.{follows_code}
 use Rattle.paper.specs.Table1.{code}

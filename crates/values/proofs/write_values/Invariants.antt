@@ -1,12 +1,9 @@
-use borrow.Author.Rules.{rules}
 use Prim.Native.Nat.{◌≤◌, ◌-◌}
-use native.Mathlib.Omega.{arith}
-use mathlib.Core.Path.{◌≡◌, refl, ◌∙◌}
-use lib.ListN.{length, length-set}
+use mathlib.Core.Path.{◌≡◌}
+use lib.ListN.{length}
 use Rattle.bits.specs.Sets.{member}
 use Rattle.paper.specs.Marking.{settled_value}
 use Rattle.values.specs.Values.{written}
-use Rattle.values.proofs.Written.{writes_nothing, writes_one, writes_all}
 use Rattle.values.proofs.write_values.Given as goal
 
 abbrev pub invariant-loop-a : goal.invariant-loop-a

@@ -1,11 +1,7 @@
-use borrow.Author.Rules.{rules}
 use mathlib.Core.Path.{◌≡◌}
 use Prim.Native.Nat.{◌+◌, ◌-◌, ◌*◌, ◌≤◌}
-use native.Mathlib.Nat.{zero-add}
-use native.Mathlib.Omega.{arith}
 use lib.ListN.{take, drop}
 use Rattle.valuesheet.specs.Fitting.{bytes_for}
-use Rattle.valuesheet.proofs.Printing.{bytes_turn, no_bytes}
 use Rattle.valuesheet.proofs.bytes_needed.Given as goal
 
 abbrev pub invariant-loop-a : goal.invariant-loop-a

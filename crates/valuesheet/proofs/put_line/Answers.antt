@@ -1,4 +1,3 @@
-use borrow.Author.Rules.{rules}
 use Rattle.valuesheet.proofs.Printing.{line_is}
 use Rattle.valuesheet.proofs.put_line.Goals as goal
 

@@ -1,12 +1,8 @@
-use borrow.Author.Rules.{rules}
-use mathlib.Core.Path.{◌≡◌, refl, sym, ap, ◌∙◌}
-use Prim.Native.Nat.{◌+◌, ◌-◌, ◌*◌, ◌≤◌}
+use mathlib.Core.Path.{refl, sym, ap, ◌∙◌}
 use native.Mathlib.Nat.{zero-add}
 use native.Mathlib.Omega.{arith}
-use lib.ListN.{length, get_or, take, drop}
+use lib.ListN.{get_or}
 use lib.Seq.{sets}
-use Rattle.valuesheet.specs.ValueSheet.{lines_from}
-use Rattle.valuesheet.specs.Fitting.{bytes_for}
 use Rattle.valuesheet.proofs.Printing.{bytes_turn, line_fits, lines_turn, no_lines}
 use Rattle.valuesheet.proofs.put_lines.Goals as goal
 
@@ -28,17 +24,16 @@ put_line-requires c =
     }
 
 pub loop-a-preserved : goal.loop-a-preserved
-loop-a-preserved c =
-    (
-      omega arith,
-      omega (arith, c.line_bytes-at.ensures.upper_bound),
-      c.put_line.auto.text ∙ c.loop-a.invariant.2,
-      bytes_turn c.args.names.now c.args.n c.loop-a.a c.requires.n_in_bounds
-          c.loop-a-test.true _ c.entry-e.ensures.value c.loop-a.at _ _ c.line_bytes-at.ensures.value c.loop-a.invariant.3,
-      lines_turn c.args.names.now c.args.n c.loop-a.a c.requires.n_in_bounds c.loop-a-test.true _
-          c.entry-e.ensures.value c.args.sheet.now (λ x. get_or c.args.values.now x 0) c.loop-a.text _
-          c.loop-a.at _ _ c.byte-v.ensures c.line_bytes-at.ensures.value c.put_line.ensures ∙ c.loop-a.invariant.4,
-    )
+loop-a-preserved c = (
+  omega arith,
+  omega (arith, c.line_bytes-at.ensures.upper_bound),
+  c.put_line.auto.text ∙ c.loop-a.invariant.2,
+  bytes_turn c.args.names.now c.args.n c.loop-a.a c.requires.n_in_bounds
+      c.loop-a-test.true _ c.entry-e.ensures.value c.loop-a.at _ _ c.line_bytes-at.ensures.value c.loop-a.invariant.3,
+  lines_turn c.args.names.now c.args.n c.loop-a.a c.requires.n_in_bounds c.loop-a-test.true _
+      c.entry-e.ensures.value c.args.sheet.now (λ x. get_or c.args.values.now x 0) c.loop-a.text _
+      c.loop-a.at _ _ c.byte-v.ensures c.line_bytes-at.ensures.value c.put_line.ensures ∙ c.loop-a.invariant.4,
+)
 
 pub shape_of-text : goal.shape_of-text
 shape_of-text c =

@@ -1,13 +1,9 @@
-use borrow.Author.Rules.{rules}
-use mathlib.Core.Path.{◌≡◌, refl, sym, ap, ◌∙◌}
+use mathlib.Core.Path.{◌≡◌}
 use Prim.Native.Nat.{◌+◌, ◌-◌, ◌*◌, ◌≤◌}
-use native.Mathlib.Nat.{zero-add}
-use native.Mathlib.Omega.{arith}
 use lib.ListN.{length, get_or, take, drop}
 use lib.Seq.{sets}
 use Rattle.valuesheet.specs.ValueSheet.{lines_from}
 use Rattle.valuesheet.specs.Fitting.{bytes_for}
-use Rattle.valuesheet.proofs.Printing.{bytes_turn, line_fits, lines_turn, no_lines}
 use Rattle.valuesheet.proofs.put_lines.Given as goal
 
 abbrev pub invariant-loop-a : goal.invariant-loop-a

@@ -1,8 +1,5 @@
-use borrow.Author.Rules.{rules}
-use Prim.Native.Nat.{◌-◌, ◌≤◌}
 use native.Mathlib.Nat.{le_antisymm}
 use native.Mathlib.Omega.{arith}
-use Rattle.waiting.specs.Waiting.{AllBelow}
 use Rattle.waiting.proofs.Waking.{none_below, one_more_below}
 use Rattle.waiting.proofs.all_below.Goals as goal
 

@@ -1,4 +1,3 @@
-use borrow.Author.Rules.{rules}
 use mathlib.Core.Path.{ap}
 use Rattle.bits.specs.Sets.{member}
 use Rattle.words.specs.Layout.{rules_of}

@@ -1,8 +1,6 @@
-use Prim.Native.Nat.{◌-◌}
 use mathlib.Core.Path.{sym, ◌∙◌}
 use native.Mathlib.Omega.{arith}
-use lib.ListN.{length}
-use Rattle.waiting.proofs.Numbering.{NumberedTo, numbers_start, this_stands, number_below, number_fits, numbers_go_on, all_counted, numbers_end}
+use Rattle.waiting.proofs.Numbering.{numbers_start, this_stands, number_below, number_fits, numbers_go_on, all_counted, numbers_end}
 use Rattle.waiting.proofs.number_records.Goals as goal
 
 pub loop-at-init : goal.loop-at-init

@@ -1,9 +1,6 @@
-use Prim.Native.Nat.{◌-◌}
 use mathlib.Core.Path.{refl, sym, ◌∙◌}
 use native.Mathlib.Omega.{arith}
-use Rattle.bits.specs.Sets.{member}
-use Rattle.ranks.specs.Found.{found}
-use Rattle.waiting.proofs.Awake.{PassedTo, pass_ends}
+use Rattle.waiting.proofs.Awake.{pass_ends}
 use Rattle.waiting.proofs.pass.Goals as goal
 
 pub loop-i-init : goal.loop-i-init

@@ -1,9 +1,7 @@
 use Prim.Native.Nat.{◌-◌}
-use mathlib.Core.Path.{refl, sym, ◌∙◌}
-use native.Mathlib.Omega.{arith}
 use Rattle.bits.specs.Sets.{member}
 use Rattle.ranks.specs.Found.{found}
-use Rattle.waiting.proofs.Awake.{PassedTo, pass_ends}
+use Rattle.waiting.proofs.Awake.{PassedTo}
 use Rattle.waiting.proofs.pass.Given as goal
 
 abbrev pub invariant-loop-i : goal.invariant-loop-i

@@ -1,15 +1,10 @@
-use borrow.Author.Rules.{rules}
-use Prim.Native.Nat.{ℕ, ◌+◌, ◌-◌}
-use mathlib.Core.Bool.{cond}
+use Prim.Native.Nat.{ℕ}
 use mathlib.Core.Path.{sym, ◌∙◌, subst}
 use native.Mathlib.Omega.{arith}
-use Rattle.bits.specs.Sets.{member}
-use Rattle.words.specs.Layout.{rules_of}
-use Rattle.ranks.specs.Found.{found}
-use Rattle.waiting.specs.Waiting.{AllBelow, Awake}
+use Rattle.waiting.specs.Waiting.{AllBelow}
 use Rattle.waiting.proofs.Numbering.{at_most_1024_rules}
 use Rattle.waiting.proofs.Awake.{all_awake}
-use Rattle.waiting.proofs.Turns.{PassesMade, passes_start, passes_go_on, passes_end, fewer_left}
+use Rattle.waiting.proofs.Turns.{passes_start, passes_go_on, passes_end, fewer_left}
 use Rattle.waiting.proofs.rest.Goals as goal
 
 pub all_below-waiting-requires : goal.all_below-waiting-requires

@@ -1,7 +1,5 @@
-use Prim.Native.Nat.{◌-◌}
 use mathlib.Core.Path.{sym, ◌∙◌}
 use native.Mathlib.Omega.{arith}
-use Rattle.waiting.specs.Waiting.{Woke}
 use Rattle.waiting.proofs.Waking.{woke_none, woke_on, woke_all}
 use Rattle.waiting.proofs.wake.Goals as goal
 

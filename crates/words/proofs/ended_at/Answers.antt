@@ -1,5 +1,4 @@
 use mathlib.Core.Path.{sym}
-use borrow.Author.Rules.{rules}
 use Rattle.words.proofs.ended_at.Goals as goal
 
 pub returns-in-Line : goal.returns-in-Line

@@ -1,5 +1,4 @@
 use Rattle.words.proofs.Steps.{groups_due_some}
-use borrow.Author.Rules.{rules}
 use Rattle.words.proofs.groups_due.Goals as goal
 
 pub returns-else-g-eq0 : goal.returns-else-g-eq0

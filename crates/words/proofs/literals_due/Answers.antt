@@ -1,5 +1,4 @@
 use Rattle.words.proofs.Steps.{literals_due_some}
-use borrow.Author.Rules.{rules}
 use Rattle.words.proofs.literals_due.Goals as goal
 
 pub returns-else-k-eq0 : goal.returns-else-k-eq0

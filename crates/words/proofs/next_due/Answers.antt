@@ -1,5 +1,4 @@
 use mathlib.Core.Path.{sym}
-use borrow.Author.Rules.{rules}
 use Rattle.words.proofs.next_due.Goals as goal
 
 pub returns-in-Size : goal.returns-in-Size

@@ -1,5 +1,4 @@
 use mathlib.Core.Path.{sym}
-use borrow.Author.Rules.{rules}
 use Rattle.words.proofs.note.Goals as goal
 
 pub returns-in-Head : goal.returns-in-Head

@@ -1,7 +1,5 @@
 use mathlib.Core.Path.{◌∙◌}
 use mathlib.Core.Logic.{⊎_elim, inl, inr}
-use borrow.Author.Tests.{le-leb}
-use borrow.Author.Rules.{rules}
 use Rattle.words.proofs.Steps.{out_of_range_found}
 use Rattle.words.proofs.range_fault.Goals as goal
 

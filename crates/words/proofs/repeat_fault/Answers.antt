@@ -1,5 +1,4 @@
 use mathlib.Core.Path.{sym}
-use borrow.Author.Rules.{rules}
 use Rattle.words.proofs.repeat_fault.Goals as goal
 
 pub returns-then-has : goal.returns-then-has

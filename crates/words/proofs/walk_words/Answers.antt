@@ -1,11 +1,6 @@
-use mathlib.Core.Path.{◌≡◌, refl, ◌∙◌}
-use Prim.Native.Nat.{◌≤◌, ◌-◌, zero-le}
+use mathlib.Core.Path.{refl, ◌∙◌}
+use Prim.Native.Nat.{zero-le}
 use native.Mathlib.Omega.{arith}
-use borrow.Author.Rules.{rules}
-use lib.ListN.{length, drop}
-use Rattle.bits.specs.Sets.{member}
-use Rattle.words.specs.declared.Due.TheVariants.{Head}
-use Rattle.words.specs.Check.{walk, no_heads}
 use Rattle.words.proofs.Steps.{starts, goes_on, stops, ends, length_noted_16}
 use Rattle.words.proofs.walk_words.Goals as goal
 

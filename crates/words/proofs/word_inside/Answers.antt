@@ -1,6 +1,5 @@
 use mathlib.Core.Path.{refl}
 use native.Mathlib.Omega.{arith}
-use borrow.Author.Rules.{rules}
 use Rattle.words.proofs.word_inside.Goals as goal
 
 pub overflow_cast-result : goal.overflow_cast-result
@@ -8,6 +7,6 @@ overflow_cast-result c = omega (arith, c.shared_slice_known-1.given c.args.i)
 
 pub returns : goal.returns
 returns c = record {
-      value = refl;
-      upper_bound = omega (arith, c.shared_slice_known-1.given c.args.i);
-    }
+  value = refl;
+  upper_bound = omega (arith, c.shared_slice_known-1.given c.args.i);
+}
