@@ -54,7 +54,8 @@ fn read_input<R: Read>(input: &mut R, sheet: &mut [u8]) -> Input
     Input::Whole(place)
 }
 
-// Writes all of the bytes, or stops at the first write that fails or takes nothing. A write that a signal interrupts has failed.
+// Writes all of the bytes, or stops at the first write that fails or takes nothing, for which the system's reason is its text of 0.
+// A write that a signal interrupts has failed.
 fn write_all<W: Write>(out: &mut W, bytes: &[u8]) -> io::Result<()>
     ensures { OnOk result (Appends (W.contents out.old) (W.contents out.new) bytes.now) }
 {
