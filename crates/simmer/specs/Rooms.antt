@@ -1,6 +1,6 @@
 -- Stage: how many bytes a read brings, and the room for them.
 use Rattle.std.specs.Prelude.{List, ℕ, ◌≤◌, ◌<◌, ◌+◌}
-use Rattle.io.specs.Counts.{IsPrefixLen}
+use Rattle.std.specs.Counts.{IsPrefixLen}
 use Rattle.simmer.specs.declared.Arrival.{Arrival}
 use Rattle.simmer.specs.declared.Input.{Input}
 
@@ -8,9 +8,9 @@ use Rattle.simmer.specs.declared.Input.{Input}
 abbrev pub Arrived : ℕ → ℕ → Arrival → Type 0
 Arrived place room (Arrival.Bytes n) = (0 < n) × (place + n ≤ room)
 Arrived place room Arrival.End = Unit {0}
-Arrived place room Arrival.Failed = Unit {0}
+Arrived place room (Arrival.Failed e) = Unit {0}
 
 -- a whole input is the first bytes of the room
 abbrev pub Holds : List ℕ → Input → Type 0
 Holds sheet (Input.Whole n) = IsPrefixLen n sheet
-Holds sheet Input.Failed = Unit {0}
+Holds sheet (Input.Failed e) = Unit {0}

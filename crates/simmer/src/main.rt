@@ -1,92 +1,153 @@
-ghost use Rattle.std.specs.Prelude.{◌≤◌, length};
+#![tactic(auto)]
+
+ghost use Rattle.std.specs.Prelude.{◌≡◌, ◌≤◌, drop, length, OnOk};
+ghost use Rattle.std.specs.Fmt.{decimal};
+ghost use Rattle.std.specs.Io.KnownBytes.{Appends};
+ghost use Rattle.simmer.specs.Lines.{refusal_line};
 ghost use Rattle.simmer.specs.Rooms.{Arrived, Holds};
 
-use libc::{STDIN_FILENO, STDOUT_FILENO};
 use refusal::Refusal;
 use sheets::SheetAnswer;
+use std::fmt::InlineText;
+use std::io;
+use std::io::{Error, Read, Write};
 
 // What a read into the room's rest gave: bytes, the end of input, or nothing since it failed.
 #[derive(Drop)]
 enum Arrival {
     Bytes(usize),
     End,
-    Failed,
+    Failed(Error),
 }
 
 // The whole input, or as much of it as the room holds; or a failed read, after which there is no sheet.
 #[derive(Drop)]
 enum Input {
     Whole(usize),
-    Failed,
+    Failed(Error),
 }
 
 // One read, into the room from a place on.
-fn read_some(sheet: &mut [u8], place: usize) -> Arrival
+fn read_some<R: Read>(input: &mut R, sheet: &mut [u8], place: usize) -> Arrival
     requires { place ≤ length sheet.old }
     ensures { Arrived place (length sheet.old) result }
 {
-    let got = libc::read(STDIN_FILENO, &mut sheet[place..]);
-    let n = io::count(got, &sheet[place..]);
-    if got < 0 {
-        Arrival::Failed
-    } else if n == 0 {
-        Arrival::End
-    } else {
-        Arrival::Bytes(n)
+    match input.read(&mut sheet[place..]) {
+        Ok(0) => Arrival::End,
+        Ok(n) => Arrival::Bytes(n),
+        Err(e) => Arrival::Failed(e),
     }
 }
 
 // Reads until the input ends, a read fails or the room is full.
-fn read_input(sheet: &mut [u8]) -> Input
+fn read_input<R: Read>(input: &mut R, sheet: &mut [u8]) -> Input
     ensures { Holds sheet.new result }
 {
     let mut place: usize = 0;
     while place < sheet.len() {
-        match read_some(sheet, place) {
+        match read_some(input, sheet, place) {
             Arrival::Bytes(n) => place += n,
             Arrival::End => return Input::Whole(place),
-            Arrival::Failed => return Input::Failed,
+            Arrival::Failed(e) => return Input::Failed(e),
         }
     }
     Input::Whole(place)
 }
 
+// Writes all of the bytes, or stops at the first write that fails or takes nothing, for which the system's reason is its text of 0.
+// A write that a signal interrupts has failed.
+fn write_all<W: Write>(out: &mut W, bytes: &[u8]) -> io::Result<()>
+    ensures { OnOk result (Appends (W.contents out.old) (W.contents out.new) bytes.now) }
+{
+    let mut done = 0;
+    while done < bytes.len() {
+        let n = out.write(&bytes[done..])?;
+        if n == 0 {
+            return Err(Error::from_raw_os_error(0));
+        }
+        done += n;
+    }
+    Ok(())
+}
+
+// Puts a number's decimal digits at the end of the text; says where they begin.
+fn put_decimal(n: u64, text: &mut [u8; 20]) -> usize
+    ensures begins { result ≤ 20 }
+    ensures digits { drop result text.new ≡ decimal n }
+{
+    let mut left = n;
+    let mut at = 20;
+    while 10 <= left {
+        at -= 1;
+        text[at] = b'0' + (left % 10) as u8;
+        left /= 10;
+    }
+    at -= 1;
+    text[at] = b'0' + left as u8;
+    at
+}
+
+fn write_decimal<W: Write>(out: &mut W, n: u64) -> io::Result<()>
+    ensures { OnOk result (Appends (W.contents out.old) (W.contents out.new) (decimal n)) }
+{
+    let mut text = [0u8; 20];
+    let at = put_decimal(n, &mut text);
+    write_all(out, &text[at..])
+}
+
 // One line: refused, number, place.
-fn write_refusal(r: Refusal) -> bool {
+fn write_refusal<W: Write>(out: &mut W, r: Refusal) -> io::Result<()>
+    ensures { OnOk result (Appends (W.contents out.old) (W.contents out.new) (refusal_line r)) }
+{
     let number = r.number;
     let place = r.place;
-    io::write_all(STDOUT_FILENO, b"refused\t")
-        && io::print_decimal(STDOUT_FILENO, number)
-        && io::write_all(STDOUT_FILENO, b"\t")
-        && io::print_decimal(STDOUT_FILENO, place)
-        && io::write_all(STDOUT_FILENO, b"\n")
+    write_all(out, b"refused\t")?;
+    write_decimal(out, number)?;
+    write_all(out, b"\t")?;
+    write_decimal(out, place)?;
+    write_all(out, b"\n")
 }
 
 // The value sheet, of at most 512 lines of 27 bytes, or the refusal line; whether all of it was written.
-fn write_answer(sheet: &[u8]) -> bool {
+fn write_answer<W: Write>(out: &mut W, sheet: &[u8]) -> io::Result<()> {
     let mut words = [0u16; limits::MOST_WORDS];
     let mut names = [0u32; limits::MOST_ATOMS];
     let mut text = [0u8; limits::MOST_ATOMS * (limits::MOST_NAME_BYTES + 3)];
     match sheets::read_sheet(sheet, &mut words, &mut names, &mut text) {
         SheetAnswer::Accepted(c) => {
             let bytes = c.bytes;
-            io::write_all(STDOUT_FILENO, &text[..bytes])
+            write_all(out, &text[..bytes])
         }
-        SheetAnswer::Refused(r) => write_refusal(r),
+        SheetAnswer::Refused(r) => write_refusal(out, r),
     }
 }
 
-fn answer_sheet(sheet: &[u8]) {
-    if !write_answer(sheet) {
-        os::fail(b"simmer: cannot write to standard output");
+// One line: what could not be done, and the system's reason, without the number that std prints behind it.
+fn tell<W: Write>(err: &mut W, what: &[u8], error: Error) {
+    let printed = InlineText::<128>::of(error);
+    let text = printed.as_str();
+    let reason = match text.split_once(" (os error ") {
+        Some((reason, _)) => reason,
+        None => text,
+    };
+    let _ = write_all(err, what);
+    let _ = write_all(err, b": ");
+    let _ = write_all(err, reason.as_bytes());
+    let _ = write_all(err, b"\n");
+}
+
+fn answer_sheet<W: Write, E: Write>(out: &mut W, err: &mut E, sheet: &[u8]) {
+    match write_answer(out, sheet) {
+        Ok(()) => {}
+        Err(e) => tell(err, b"simmer: cannot write to standard output", e),
     }
 }
 
 // A sheet of 65,536 bytes is read whole; one byte more tells a sheet that is too long.
-fn main() {
+fn main(rt: HostRuntime) {
     let mut sheet = [0u8; limits::MOST_SHEET_BYTES + 1];
-    match read_input(&mut sheet) {
-        Input::Whole(n) => answer_sheet(&sheet[..n]),
-        Input::Failed => os::fail(b"simmer: cannot read standard input"),
+    match read_input(&mut rt.stdin(), &mut sheet) {
+        Input::Whole(n) => answer_sheet(&mut rt.stdout(), &mut rt.stderr(), &sheet[..n]),
+        Input::Failed(e) => tell(&mut rt.stderr(), b"simmer: cannot read standard input", e),
     }
 }
