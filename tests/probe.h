@@ -80,10 +80,6 @@ uint64_t probe_sheet(const uint8_t *sheet, size_t sheet_len, uint16_t *words, si
                      uint32_t *names, size_t names_len, uint8_t *text, size_t text_len,
                      size_t *atoms, size_t *filled);
 
-/* The bucket, below 512, in which the name of `len` bytes (any bytes, 0 to any number) is looked up when a sheet is read; names of one
- * bucket are looked through one after the other. No answer of an entry depends on it. */
-uint64_t probe_bucket(const uint8_t *name, size_t len);
-
 #ifdef __cplusplus
 }
 #endif

@@ -12,7 +12,6 @@ mod growth;
 mod marks;
 mod reading;
 mod reasons;
-mod sheets;
 mod turns;
 mod yardstick;
 
