@@ -87,7 +87,7 @@ fn round(
 }
 
 // Marks and held literals.
-#[derive(Drop)]
+#[derive(Clone, Copy)]
 pub struct Marking {
     pub marks: [u64; 8],
     pub held: [u64; 16],

@@ -14,7 +14,7 @@ ghost use Rattle.waiting.specs.Waiting.{number_for, place_for, with_record, Numb
 use bits::Found;
 
 // The lines of a reason sheet: the literals that have one, and from 3 * l on the rank of l, the head of the rule that it names, its group's number.
-#[derive(Drop)]
+#[derive(Clone, Copy)]
 pub struct Reasons {
     pub ranked: [u64; 16],
     pub lines: [u16; 3072],

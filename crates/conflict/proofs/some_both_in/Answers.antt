@@ -1,0 +1,29 @@
+use borrow.Author.Rules.{rules}
+use Prim.Native.Nat.{◌≤◌}
+use native.Mathlib.Omega.{arith}
+use mathlib.Core.Path.{◌≡◌, refl}
+use Rattle.bits.specs.Sets.{member}
+use Rattle.sets.specs.Some.{some_below}
+use Rattle.sets.proofs.Some.{some_goes_on, some_found, some_end}
+use Rattle.conflict.specs.Both.{both_in}
+use Rattle.conflict.proofs.some_both_in.Goals as goal
+
+pub loop-a-init : goal.loop-a-init
+loop-a-init c =
+    (omega arith, refl)
+
+pub returns-then-both_in : goal.returns-then-both_in
+returns-then-both_in c =
+    some_found _ c.loop-a.a _
+    c.loop-a-test.true c.both_in.ensures c.if-both_in.true c.loop-a.invariant.1
+
+pub loop-a-preserved : goal.loop-a-preserved
+loop-a-preserved c = (
+  omega arith,
+  some_goes_on _ c.loop-a.a _
+      c.loop-a-test.true c.both_in.ensures c.if-both_in.false c.loop-a.invariant.1,
+)
+
+pub returns : goal.returns
+returns c =
+    some_end _ c.loop-a.a c.loop-a-test.false c.loop-a.invariant.1

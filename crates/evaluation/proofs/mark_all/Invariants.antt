@@ -1,0 +1,18 @@
+use borrow.Author.Rules.{rules}
+use Prim.Native.Nat.{◌≤◌, ◌-◌}
+use native.Mathlib.Omega.{arith}
+use mathlib.Core.Path.{◌≡◌, ap, ◌∙◌}
+use lib.ListN.{length}
+use Rattle.bits.specs.Sets.{member}
+use Rattle.evaluation.specs.Rounds.{RoundOver, paired_below}
+use Rattle.evaluation.proofs.Rounds.{turn, pair_turn, paired_members, none_paired, over_looked, round_begins, round_ends, pairs_end}
+use Rattle.evaluation.proofs.mark_all.Given as goal
+
+abbrev pub invariant-loop-a : goal.invariant-loop-a
+invariant-loop-a l =
+    (l.a ≤ l.n) × RoundOver l.initial.marks (member l.held) (member l.clean) l.a l.any l.marks × (l.shut ≡ paired_below l.initial.shut l.initial.marks (member l.held)
+    (member l.clean) l.a) × (l.ready ≡ paired_below l.initial.ready l.initial.marks (member l.held) (member l.clean) l.a)
+
+abbrev pub decreases-loop-a : goal.decreases-loop-a
+decreases-loop-a l =
+    l.n - l.a

@@ -1,0 +1,10 @@
+use borrow.Author.Tests.{eq-eqb, ne_eqb}
+use Rattle.reasontext.proofs.separator_byte.Goals as goal
+
+-- src/lib.rt:20:1
+pub returns-then-field-eq3 : goal.returns-then-field-eq3
+returns-then-field-eq3 c = simp (eq-eqb _ _ c.if-field-eq3.true)
+
+-- src/lib.rt:20:1
+pub returns-else-field-eq3 : goal.returns-else-field-eq3
+returns-else-field-eq3 c = simp (ne_eqb _ _ c.if-field-eq3.false)

@@ -1,0 +1,17 @@
+use borrow.Author.Rules.{rules}
+use mathlib.Core.Path.{◌≡◌}
+use Prim.Native.Nat.{◌+◌, ◌-◌, ◌*◌, ◌≤◌}
+use native.Mathlib.Nat.{zero-add}
+use native.Mathlib.Omega.{arith}
+use lib.ListN.{take, drop}
+use Rattle.valuesheet.specs.Fitting.{bytes_for}
+use Rattle.valuesheet.proofs.Printing.{bytes_turn, no_bytes}
+use Rattle.valuesheet.proofs.bytes_needed.Given as goal
+
+abbrev pub invariant-loop-a : goal.invariant-loop-a
+invariant-loop-a l =
+    (l.a ≤ l.n) × (l.total ≤ 34 * l.a) × (l.total + bytes_for (drop l.a (take l.n l.names)) ≡ bytes_for (take l.n l.names))
+
+abbrev pub decreases-loop-a : goal.decreases-loop-a
+decreases-loop-a l =
+    l.n - l.a

@@ -1,0 +1,22 @@
+use borrow.Author.Rules.{rules}
+use mathlib.Core.Path.{◌≡◌, refl, sym, ap, ◌∙◌}
+use Prim.Native.Nat.{◌+◌, ◌-◌, ◌*◌, ◌≤◌}
+use native.Mathlib.Nat.{zero-add}
+use native.Mathlib.Omega.{arith}
+use lib.ListN.{length, get_or, take, drop}
+use lib.Seq.{sets}
+use Rattle.valuesheet.specs.ValueSheet.{lines_from}
+use Rattle.valuesheet.specs.Fitting.{bytes_for}
+use Rattle.valuesheet.proofs.Printing.{bytes_turn, line_fits, lines_turn, no_lines}
+use Rattle.valuesheet.proofs.put_lines.Given as goal
+
+abbrev pub invariant-loop-a : goal.invariant-loop-a
+invariant-loop-a l =
+    (l.a ≤ l.n) × (l.at ≤ 34 * l.a) × (length l.text ≡ length l.initial.text)
+    × (l.at + bytes_for (drop l.a (take l.n l.names)) ≡ bytes_for (take l.n l.names))
+    × (sets l.text l.at (lines_from l.sheet (λ x. get_or l.values x 0) l.a (drop l.a (take l.n l.names)))
+    ≡ sets l.initial.text 0 (lines_from l.sheet (λ x. get_or l.values x 0) 0 (take l.n l.names)))
+
+abbrev pub decreases-loop-a : goal.decreases-loop-a
+decreases-loop-a l =
+    l.n - l.a

@@ -1,0 +1,17 @@
+use borrow.Author.Rules.{rules}
+use mathlib.Core.Path.{◌≡◌, refl, sym, ◌∙◌}
+use Prim.Native.Nat.{◌-◌, ◌≤◌}
+use native.Mathlib.Omega.{arith}
+use lib.ListN.{length, length-set}
+use lib.Seq.{sets}
+use Rattle.names.specs.Names.{bytes_at}
+use Rattle.valuesheet.proofs.Printing.{name_left, name_begins, name_turn, name_ends}
+use Rattle.valuesheet.proofs.put_name.Given as goal
+
+abbrev pub invariant-loop-i : goal.invariant-loop-i
+invariant-loop-i l =
+    (l.i ≤ l.len) × (length l.text ≡ length l.initial.text) × (name_left l.sheet l.start l.len l.text l.at l.i ≡ sets l.initial.text l.at (bytes_at l.sheet l.start l.len))
+
+abbrev pub decreases-loop-i : goal.decreases-loop-i
+decreases-loop-i l =
+    l.len - l.i
