@@ -1,4 +1,4 @@
-/* The entries of the engine as the tests reach them: `rt staticlib probe` writes target/staticlib/libprobe.a.
+/* The entries of the engine as the tests reach them: `rt lib` in crates/probe writes crates/probe/out/libprobe.a.
  *
  *     uint64_t answer = probe_check(2, words, 4);
  *     if (answer < PROBE_REFUSED) .. accepted ..

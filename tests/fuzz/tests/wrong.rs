@@ -349,7 +349,7 @@ fn sheet_with_15_that_counts_the_lines_of_the_heads_alone() {
 }
 
 fn simmer() -> Target {
-    targets::program(concat!(env!("CARGO_MANIFEST_DIR"), "/../../target/bin/simmer").into())
+    targets::program(concat!(env!("CARGO_MANIFEST_DIR"), "/../../crates/simmer/out/simmer").into())
 }
 
 #[test]
