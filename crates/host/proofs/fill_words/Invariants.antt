@@ -1,0 +1,15 @@
+use borrow.Author.Rules.{rules}
+use Prim.Native.Nat.{◌≤◌, ◌-◌, ◌/◌}
+use native.Mathlib.Omega.{arith}
+use mathlib.Core.Path.{◌≡◌, refl, ◌∙◌}
+use lib.ListN.{length, length-set}
+use Rattle.host.proofs.Bytes.{filled, fills_nothing, fills_one, fills_all}
+use Rattle.host.proofs.fill_words.Given as goal
+
+abbrev pub invariant-loop-i : goal.invariant-loop-i
+invariant-loop-i l =
+    (l.i ≤ length l.bytes / 2) × (l.m ≡ length l.bytes / 2) × (length l.words ≡ length l.initial.words) × (l.words ≡ filled l.bytes l.initial.words l.i)
+
+abbrev pub decreases-loop-i : goal.decreases-loop-i
+decreases-loop-i l =
+    l.m - l.i
