@@ -1,0 +1,18 @@
+use mathlib.Core.Path.{◌≡◌, refl, sym, ap, ◌∙◌}
+use native.Mathlib.Omega.{arith}
+use Prim.Native.Nat.{◌-◌, ◌≤◌}
+use lib.ListN.{length}
+use lib.Seq.{sets, length-sets}
+use Rattle.reasontext.specs.ReasonSheet.{reason_text}
+use Rattle.reasons.specs.Sheet.{lines_found}
+use Rattle.reasons.proofs.Growing.{sheet_start, length_next, next_fits, next_put}
+use borrow.Author.Rules.{rules}
+use Rattle.reasons.proofs.put_sheet.Given as goal
+
+abbrev pub invariant-loop-l : goal.invariant-loop-l
+invariant-loop-l l =
+    (l.at ≡ length (reason_text (lines_found l.ranked l.lines l.l))) × (l.text ≡ sets l.initial.text 0 (reason_text (lines_found l.ranked l.lines l.l))) × (l.l ≤ l.n)
+
+abbrev pub decreases-loop-l : goal.decreases-loop-l
+decreases-loop-l l =
+    l.n - l.l
