@@ -17,7 +17,7 @@ pub enum Due {
     Literal(usize, usize),
 }
 
-// A record: its head, then its line, then the number of its groups, then its groups (line_number_at, groups_at, bodyAt in specs/Layout.antt).
+// A record: its head, then its line, then the number of its groups, then its groups (line_number_at, groups_at, body_at in specs/Layout.antt).
 pub const LINE: usize = 1;
 
 pub const GROUPS: usize = 2;
