@@ -1,4 +1,4 @@
-/* The entries of the engine as the tests reach them: `rt staticlib probe` writes target/staticlib/libprobe.a.
+/* The entries of the engine as the tests reach them: `rt lib` in crates/probe writes crates/probe/out/libprobe.a.
  *
  *     uint64_t answer = probe_check(2, words, 4);
  *     if (answer < PROBE_REFUSED) .. accepted ..
@@ -79,10 +79,6 @@ uint64_t probe_reader(const uint8_t *sheet, size_t sheet_len, size_t *place, siz
 uint64_t probe_sheet(const uint8_t *sheet, size_t sheet_len, uint16_t *words, size_t words_len,
                      uint32_t *names, size_t names_len, uint8_t *text, size_t text_len,
                      size_t *atoms, size_t *filled);
-
-/* The bucket, below 512, in which the name of `len` bytes (any bytes, 0 to any number) is looked up when a sheet is read; names of one
- * bucket are looked through one after the other. No answer of an entry depends on it. */
-uint64_t probe_bucket(const uint8_t *name, size_t len);
 
 #ifdef __cplusplus
 }

@@ -1,6 +1,6 @@
 /* How many bytes of stack each call takes on a full input: a thread's stack is painted, and what was touched below the caller's frame is
    counted.
-   gcc -O2 -Iinclude tests/stack.c target/staticlib/libsimmerknot.a -lpthread -o target/stack && target/stack */
+   gcc -O2 -Iinclude tests/stack.c crates/simmerknot/out/libsimmerknot.a -lpthread -o /tmp/stack && /tmp/stack */
 #include <pthread.h>
 #include <simmerknot.h>
 #include <stdio.h>

@@ -14,7 +14,7 @@ Function = collections.namedtuple("Function", "name file line head contract body
 
 def crates(root):
     """The crates' names, in the order of crates.txt."""
-    return re.findall(r"^([a-z0-9_]+):", (root / "crates.txt").read_text(), re.M)
+    return re.findall(r"^([a-z0-9_]+)(?: +staticlib)? *:", (root / "crates.txt").read_text(), re.M)
 
 
 def files(root, crate, part):
@@ -116,13 +116,13 @@ def declarations(file):
 def brought(file):
     """The names that a file's use lines bring in."""
     found = []
-    mark, line_form = ("//", r"((?:ghost )?)use (.*);") if file.suffix == ".rt" else ("--", r"((?:pub |unfoldable )*)use (.*)")
+    mark, line_form = ("//", r"((?:pub |ghost )*)use (.*);") if file.suffix == ".rt" else ("--", r"((?:pub |unfoldable )*)use (.*)")
     for number, line in enumerate(bare(file.read_text(), mark).split("\n"), 1):
         use = re.fullmatch(line_form, line.rstrip())
         if not use:
             continue
         passed_on = "pub" in use.group(1)
-        listed = re.fullmatch(r"(.*)\.\{(.*)\}", use.group(2))
+        listed = re.fullmatch(r"(.*?)(?:\.|::)\{(.*)\}", use.group(2))
         if listed:
             for item in listed.group(2).split(","):
                 item, _, name = item.strip().partition(" as ")
@@ -168,7 +168,7 @@ def contract_lines(file):
     """A Rattle file's text in two: its contracts' lines, and all the others."""
     contracts, others, depth = [], [], None
     for line in file.read_text().split("\n")[:-1]:
-        clause = re.match(r" +(requires|ensures|decreases) \{", line)
+        clause = re.match(r" +(requires|ensures|decreases)\*?(?: \w+)? \{", line)
         if depth is None and clause:
             depth = 0
         if depth is None:
@@ -182,8 +182,8 @@ def contract_lines(file):
 
 
 def module_file(root, path):
-    """The file that a module's path names, or None: Rattle·words.specs.Check, Rattle·words·proofs.proofs.Laws."""
-    parts = re.fullmatch(r"Rattle·(\w+?)(?:·(?:specs|proofs))?\.(specs|proofs)\.(.+)", path)
+    """The file that a module's path names, or None: Rattle.words.specs.Check, Rattle.words.proofs.Laws."""
+    parts = re.fullmatch(r"Rattle\.(\w+)\.(specs|proofs)\.(.+)", path)
     if not parts:
         return None
     crate, part, rest = parts.groups()

@@ -343,7 +343,7 @@ pub host_sheet_tells : (s words names text : List ℕ) {answer : ℕ} {ws ns tex
     × (answer ≡ packed f) × (1 ≤ f.number) × (f.place < 4294967296))
 host_sheet_tells = answer_tells
 
--- ---- Demand 2. For an accepted table every atom's value is its value in the smallest well_supported model, by Definitions 5, 6, 8, 9 as printed.
+-- ---- Demand 2. For an accepted table every atom's value is its value in the smallest well-supported model, by Definitions 5, 6, 8, 9 as printed.
 
 -- the model is there for every accepted table
 pub model_exists : (N : ℕ) (t : List ℕ) → AcceptedTable N t → (I : Interpretation) × SmallestWellSupported (rules_of t) I
@@ -608,7 +608,7 @@ module _ (N : ℕ) (b c : List ℕ) (accepted : AcceptedTable N (words_in b)) (a
 -- ---- Document 02, W3. A quick yes or no on conflict: full evaluation agrees.
 
 module _ (N : ℕ) (t : List ℕ) {answer : Decided} (o : ConflictAllows N t answer) where
-  -- yes exactly if the smallest well_supported model, for orders of any kind, has an inconsistent atom
+  -- yes exactly if the smallest well-supported model, for orders of any kind, has an inconsistent atom
   pub conflict_exactly_if_inconsistent : AcceptedTable N t → (I : Interpretation) → SmallestWellSupported (rules_of t) I
       → (answer ≡ Decided.Yes) ↔ ((a : ℕ) × (value I (positive a) ≡ 𝐢))
   conflict_exactly_if_inconsistent accepted I smallest =
@@ -707,7 +707,7 @@ pub own_sheet_is_accepted : (N : ℕ) (t room values-room : List ℕ) {k : ℕ} 
 own_sheet_is_accepted N t room values-room {k} {room'} {values} o e c =
     reason-check-determined N t values (take k room') c (own_sheet_accepted N t room values-room o refl e)
 
--- (b) for every N, accepted table and value codes: what they give is well_supported, with an order of any kind, exactly if some text is accepted
+-- (b) for every N, accepted table and value codes: what they give is well-supported, with an order of any kind, exactly if some text is accepted
 module _ (N : ℕ) (t values : List ℕ) (accepted : AcceptedTable N t) (enough : N ≤ length values)
     (codes : (a : ℕ) → a < N → get_or values a 0 ≤ 3) where
   fine : check_fault N t values ≡ Accepted

@@ -1,4 +1,4 @@
--- The settled marking's values are those of the smallest well_supported model. Assumes nothing.
+-- The settled marking's values are those of the smallest well-supported model. Assumes nothing.
 use mathlib.Core.Bool.{Bool, false}
 use mathlib.Core.List.{List}
 use mathlib.Core.Path.{◌≡◌, refl, ap, ◌∙◌, sym, subst, subst⁻¹, fun_ext}

@@ -1,4 +1,4 @@
--- Believed: whole evaluation: every atom's value in the smallest well_supported model.
+-- Believed: whole evaluation: every atom's value in the smallest well-supported model.
 use Rattle.std.specs.Prelude.{List, ◌≡◌, ℕ, length}
 use Rattle.refusal.specs.declared.Refusal.{Refusal}
 use Rattle.refusal.specs.declared.Checked.{Checked}
@@ -14,7 +14,7 @@ use Rattle.values.specs.Values.{room_too_small, written}
 unfoldable pub evaluation_fault : ℕ → List ℕ → ℕ → Checked
 evaluation_fault N t room = or_else (too_many_atoms_fault N) (or_else (table_too_long_fault t) (or_else (room_too_small N room) (table_check N t)))
 
--- the answer, and the value room afterwards: the first N bytes are the codes of the values in the smallest well_supported model
+-- the answer, and the value room afterwards: the first N bytes are the codes of the values in the smallest well-supported model
 pub data EvaluationAllows (N : ℕ) (t room : List ℕ) : Checked → List ℕ → Type 0 where
   refused : {f : Refusal} → evaluation_fault N t (length room) ≡ Refused f → EvaluationAllows N t room (Checked.Refused f) room
   evaluated : evaluation_fault N t (length room) ≡ Accepted → (I : Interpretation) → Smallest (rules_of t) I

@@ -150,7 +150,7 @@ fn write_settled(table: &[u16], n: usize, values: &mut [u8])
     values::write_values(values, &marks, &held, n);
 }
 
-// Every atom's value in the smallest well_supported model of the table's rules.
+// Every atom's value in the smallest well-supported model of the table's rules.
 pub fn evaluate(n: u64, table: &[u16], values: &mut [u8]) -> Checked
     ensures { EvaluationAllows n table.now values.old result values.new }
 {

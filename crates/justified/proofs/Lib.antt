@@ -1,3 +1,3 @@
--- A line's justification gives Definition 9's condition, and every well_supported interpretation has justified lines.
+-- A line's justification gives Definition 9's condition, and every well-supported interpretation has justified lines.
 pub mod Laws
 pub mod Ranked

@@ -1,4 +1,4 @@
--- Each literal of a well_supported interpretation, whatever its order, has a justified line by ranks, and all that the lines name is small. Assumes nothing.
+-- Each literal of a well-supported interpretation, whatever its order, has a justified line by ranks, and all that the lines name is small. Assumes nothing.
 use mathlib.Core.Bool.{Bool, true, false, not, cond, ◌&&◌}
 use mathlib.Core.List.Memᴰ
 use mathlib.Core.List.{List, [], ◌∷◌, ◌++◌, map, cons≢nil}

@@ -1,4 +1,4 @@
--- The held literals of a marking are contained in every well_supported model, for an order of any kind. Assumes nothing.
+-- The held literals of a marking are contained in every well-supported model, for an order of any kind. Assumes nothing.
 use mathlib.Core.Bool.{Bool, not}
 use mathlib.Core.List.Memᴰ
 use mathlib.Core.List.{List, [], ◌∷◌}

@@ -1,4 +1,4 @@
--- The smallest well_supported model: it exists, is one, and is the same for every kind of order. Assumes nothing.
+-- The smallest well-supported model: it exists, is one, and is the same for every kind of order. Assumes nothing.
 use mathlib.Core.List.{List}
 use mathlib.Core.Logic.{◌↔◌}
 use mathlib.Core.Path.{◌≡◌, subst, sym, ap, ◌∙◌, fun_ext}

@@ -1,4 +1,4 @@
--- The held literals of a settled marking are well_supported by Definition 9 as printed.
+-- The held literals of a settled marking are well-supported by Definition 9 as printed.
 -- The order: t literals first, by the rank at which Clean derives them; then i literals, by the rank at which Held derives them along the marking.
 -- A literal that first becomes held by its own mark rests on its negation's rule (condition 8). Assumes nothing.
 use mathlib.Core.Bool.{Bool, true, false, not, cond}

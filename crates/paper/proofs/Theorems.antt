@@ -23,7 +23,7 @@ use Rattle.paper.proofs.Examples as rooms-examples
 pub settled_is_a_model : (R : List Rule) → OneRulePerHead R → (A : Marks) → Settled R A → (I : Interpretation) → IsHeld R A I → Model R I
 settled_is_a_model R one A s I h = rooms-settled.settled_model R A I h s one
 
--- .. well_supported, and contained in every well_supported model, for orders of any kind
+-- .. well-supported, and contained in every well-supported model, for orders of any kind
 pub settled_is_smallest : (R : List Rule) → OneRulePerHead R → {n : ℕ} {A : Marks} → Marking R n A
     → Settled R A → (I : Interpretation) → IsHeld R A I → SmallestWellSupported R I
 settled_is_smallest R one k s I h = rooms-smallest.settled_smallest_any R one k s I h
@@ -37,7 +37,7 @@ pub settled_marking_exists : (R : List Rule) (N : ℕ) → HeadsBelow N R
     → (n : ℕ) × Marking R n (rooms-existence.settled_marks R N) × Settled R (rooms-existence.settled_marks R N)
 settled_marking_exists R N below = rooms-existence.settled_marks_is R N below
 
--- the smallest well_supported model exists ..
+-- the smallest well-supported model exists ..
 pub smallest_exists : (R : List Rule) → OneRulePerHead R → (I : Interpretation) × Smallest R I
 smallest_exists R one = (rooms-smallest.smallest_set R one, rooms-smallest.smallest_set_is R one)
 

@@ -1,4 +1,4 @@
--- Believed: Definitions 5, 6, 8 and 9 of the paper, as printed; the smallest well_supported model.
+-- Believed: Definitions 5, 6, 8 and 9 of the paper, as printed; the smallest well-supported model.
 use Rattle.std.specs.Prelude.{List, [], ◌∷◌, Bool, true, false, ◌⊎◌, ◌≡◌, ℕ, T}
 use Rattle.paper.specs.Table1.{Value, 𝐟, 𝐮, 𝐢, 𝐭, ◌and◌, ◌or◌, ◌implies◌}
 use Rattle.paper.specs.Rules.{Rule, negation, IsRuleOf}
@@ -72,7 +72,7 @@ pub record WellSupportedBy (R : List Rule) (I : Interpretation) (before : ℕ �
 abbrev pub WellSupported : List Rule → Interpretation → Type 1
 WellSupported R I = (before : ℕ → ℕ → Type 0) × WellSupportedBy R I before
 
--- a well_supported model that is contained in every other
+-- a well-supported model that is contained in every other
 pub record SmallestWellSupported (R : List Rule) (I : Interpretation) : Type 1 where
   pub well_supported : WellSupported R I
   pub contained : (M : Interpretation) → WellSupported R M → I ⊆ M

@@ -20,7 +20,7 @@ values_from I a (suc n) = value I (positive a) ∷ values_from I (suc a) n
 abbrev pub all_literals : ℕ → Interpretation
 all_literals N l = ltb l (positive N)
 
--- N, the rules, the value of each atom, how many marks are made, which other sets are well_supported too, and which are models and are not
+-- N, the rules, the value of each atom, how many marks are made, which other sets are well-supported too, and which are models and are not
 pub record Example : Type 0 where
   pub atoms : ℕ
   pub rules : List Rule
@@ -29,7 +29,7 @@ pub record Example : Type 0 where
   pub also : List Interpretation
   pub only_models : List Interpretation
 
--- what an example says: these are the values of the smallest well_supported model, a settled marking from none exists and each has made so many marks,
+-- what an example says: these are the values of the smallest well-supported model, a settled marking from none exists and each has made so many marks,
 -- and the other sets are what they are called
 pub record Says (e : Example) : Type 1 where
   pub one_rule_per_head : OneRulePerHead e.rules
@@ -44,7 +44,7 @@ pub record Says (e : Example) : Type 1 where
 abbrev pub P1 : Example
 P1 = record { atoms = 0; rules = []; values = []; made = 0; also = []; only_models = [] }
 
--- P2 "-b: b": b u. {b, -b} is also well_supported as printed, and is not the smallest
+-- P2 "-b: b": b u. {b, -b} is also well-supported as printed, and is not the smallest
 abbrev pub P2 : Example
 P2 = record { atoms = 1; rules = negative 0 :- ((positive 0 ∷ []) ∷ []) ∷ []; values = 𝐮 ∷ []; made = 0; also = all_literals 1 ∷ []; only_models = [] }
 
@@ -60,7 +60,7 @@ P4 = record { atoms = 1; rules = positive 0 :- [] ∷ []; values = 𝐭 ∷ []; 
 abbrev pub P5 : Example
 P5 = record { atoms = 1; rules = positive 0 :- [] ∷ negative 0 :- [] ∷ []; values = 𝐢 ∷ []; made = 1; also = []; only_models = [] }
 
--- P6 "l", "c: l", "-l: -c": l t, c t. All four literals together are well_supported too
+-- P6 "l", "c: l", "-l: -c": l t, c t. All four literals together are well-supported too
 abbrev pub P6 : Example
 P6 =
     record {

@@ -85,7 +85,7 @@ module _ (N : ℕ) (t : List ℕ) (accepted : AcceptedTable N t) {l : List ℕ} 
   pub count_never_refused : {answer : Numbered} → CountAllows r answer → answer ≡ Numbered.Number (count 512 (marks_of r))
   count_never_refused o = counts N t accepted r reached o
 
-  -- as soon as no atom can be marked, the report's values are those of the smallest well_supported model
+  -- as soon as no atom can be marked, the report's values are those of the smallest well-supported model
   pub report_after_picks : Settled (rules_of t) (marks_of r) → (I : Interpretation) → Smallest (rules_of t) I → (room : List ℕ) → N ≤ length room
       → {answer : Checked} {room' : List ℕ} → ReportAllows r t room answer room'
       → (answer ≡ Checked.Accepted) × (room' ≡ written (λ a. value I (positive a)) N room)

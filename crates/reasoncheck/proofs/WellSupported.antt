@@ -1,4 +1,4 @@
--- Values are well_supported exactly if some sheet for them is accepted; ranks that justify a line for each literal make such a sheet. Assumes nothing.
+-- Values are well-supported exactly if some sheet for them is accepted; ranks that justify a line for each literal make such a sheet. Assumes nothing.
 use mathlib.Core.Bool.{cond}
 use mathlib.Core.List.Memᴰ
 use mathlib.Core.List.{List, [], ◌∷◌, map}
@@ -128,7 +128,7 @@ module _ (rank head group : ℕ → ℕ) where
         let c = below_length I (2 * N) in
         omega arith
 
--- an accepted text's ranks are an order by which the values are well_supported
+-- an accepted text's ranks are an order by which the values are well-supported
 pub accepted→well_supported : (N : ℕ) (t values text : List ℕ) → CheckAllows N t values text Checked.Accepted
     → (ls : List ReasonLine) × IsReasonText text ls × WellSupportedBy (rules_of t) (given N values) (SmallerRank ls)
 accepted→well_supported N t values text (accepts fine ls good model codes holds) = (
@@ -144,7 +144,7 @@ accepted→well_supported N t values text (accepts fine ls good model codes hold
       )),
 )
 
--- and well_supported values, whatever the order, have a sheet that is accepted
+-- and well-supported values, whatever the order, have a sheet that is accepted
 pub well_supported→accepted : (N : ℕ) (t values : List ℕ) → check_fault N t values ≡ Accepted → WellSupported (rules_of t) (given N values)
     → (text : List ℕ) × (length text ≤ most_reason_bytes) × CheckAllows N t values text Checked.Accepted
 well_supported→accepted N t values fine ws =

@@ -114,7 +114,7 @@ fn write_settled(n: usize, table: &[u16], text: &mut [u8]) -> Numbered
     print_sheet(text, &ranked, &lines, 2 * n)
 }
 
-// Why each literal of the smallest well_supported model is in it: the reason sheet, and its length.
+// Why each literal of the smallest well-supported model is in it: the reason sheet, and its length.
 pub fn write_reasons(n: u64, table: &[u16], text: &mut [u8]) -> Numbered
     ensures { ReasonsAllows n table.now text.old result text.new }
 {

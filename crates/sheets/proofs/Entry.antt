@@ -96,7 +96,7 @@ module _ (s : List ℕ) (wordRoom nameRoom n w : ℕ) (ws ns : List ℕ) (held :
         allows s wordRoom nameRoom text (ap SheetAnswer.Refused (sym got.1)) (sym h) (sym h') (sym got.2)
         (SheetAllows.does_not_fit {x = x} {I = I} held.is (v.smallest x held.is) got.0)
 
-  -- evaluation takes the table, and its values are those of the smallest well_supported model of the sheet's rules
+  -- evaluation takes the table, and its values are those of the smallest well-supported model of the sheet's rules
   takes_table : (room : ℕ) → 512 ≤ room → evaluation_fault n (take w ws) room ≡ Accepted
   takes_table room h =
       ap₂ (λ (a : ℕ) (t : List ℕ). evaluation_fault a t room) held.atoms words_taken

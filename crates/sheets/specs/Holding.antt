@@ -18,7 +18,7 @@ pub record Holding (s : List ℕ) (wordRoom nameRoom n w : ℕ) (ws ns : List �
   pub atoms : n ≡ length sofar.names
   pub filled : w ≡ length (words_of sofar.records)
 
--- the first n values are those of the smallest well_supported model of the sheet's rules
+-- the first n values are those of the smallest well-supported model of the sheet's rules
 pub record Valued (s : List ℕ) (wordRoom nameRoom n : ℕ) (values : List ℕ) : Type 0 where
   pub model : Interpretation
   pub smallest : (x : Sofar) → sheet_outcome s wordRoom nameRoom ≡ sheet.accepted x → Smallest (rules_in x.records) model

@@ -75,7 +75,7 @@ fn value_and_print(
     }
 }
 
-// The sheet entry: reads a sheet into words and name entries, and prints every value in the smallest well_supported model of its rules.
+// The sheet entry: reads a sheet into words and name entries, and prints every value in the smallest well-supported model of its rules.
 pub fn read_sheet(
     sheet: &[u8],
     words: &mut [u16],

@@ -1,14 +1,10 @@
-//! Names, and the buckets in which the engine looks them up: names of one bucket, and names that differ in little.
+//! Names, and the buckets of an index in which they could be looked up: names of one bucket, and names that differ in little.
 
 use std::collections::{BTreeMap, BTreeSet};
 use std::ops::Range;
 
 use second::random::Chance;
 use second::refusal::MOST_NAME_BYTES;
-
-unsafe extern "C" {
-    fn probe_bucket(name: *const u8, len: usize) -> u64;
-}
 
 pub const BUCKETS: usize = 512;
 
@@ -18,9 +14,28 @@ pub const LETTERS: &[u8] = b"abcdefghijklmnopqrstuvwxyz";
 
 pub type Name = Vec<u8>;
 
-/// The engine's bucket of a name, lent this very slice.
+/// The bytes as one number, the first byte lowest.
+fn number(bytes: &[u8]) -> u64 {
+    bytes.iter().rev().fold(0, |number, &byte| 256 * number + u64::from(byte))
+}
+
+/// The halves of a number, each times a factor of its own, so that every bit changes higher ones.
+fn mixed(x: u64) -> u64 {
+    x % (1 << 32) * 1_772_427 + (x >> 32) * 548_035
+}
+
+/// The bucket of a name in an index as an engine may have one: a number below 512 from the bytes alone.
 pub fn bucket(name: &[u8]) -> usize {
-    unsafe { probe_bucket(name.as_ptr(), name.len()) as usize }
+    let n = name.len();
+    let spread = match n {
+        0..4 => mixed(number(name)),
+        4..8 => mixed(number(&name[..4]) + (number(&name[n - 4..]) << 32)),
+        _ => {
+            let eight = |at: usize| mixed(number(&name[at..at + 8]));
+            eight(0) + 15 * eight((n - 8) / 2) + 137 * eight(n - 8)
+        }
+    };
+    ((spread >> 21) as usize + n) % BUCKETS
 }
 
 /// The bytes that may stand at a place of a name.

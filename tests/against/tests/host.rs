@@ -262,18 +262,69 @@ mod conflict {
 
 mod sheet {
     use against::cases::{Tally, cases};
-    use against::compare::{Buffers, host_sheet as compare, second_read};
     use against::entries::unpacked;
-    use against::guard::BEFORE;
+    use against::guard::{BEFORE, Guarded};
     use against::host;
-    use against::sheets::{MANY_LINES, NOT_BY_TWO, ONLY_IN_BODIES, ROOM_FOR_HEADS};
+    use against::sheets::{self, MANY_LINES, NOT_BY_TWO, ONLY_IN_BODIES, ROOM_FOR_HEADS};
+    use against::shrink::without_parts;
     use second::host::simmerknot_sheet as second_sheet;
     use second::random::{self, Chance, SHEET_DAMAGES};
     use second::tables::EXAMPLES;
 
+    /// The three buffers as they are lent, and as they are left.
+    #[derive(Clone, PartialEq, Eq)]
+    struct Buffers {
+        words: Vec<u8>,
+        names: Vec<u8>,
+        text: Vec<u8>,
+    }
+
+    fn engine(sheet: &[u8], lent: &Buffers, before: usize) -> (u64, Buffers) {
+        let sheet = Guarded::new(sheet, before);
+        let unaltered = sheet.clone();
+        let mut words = Guarded::new(&lent.words, before);
+        let mut names = Guarded::new(&lent.names, before);
+        let mut text = Guarded::new(&lent.text, before);
+        let answer = host::sheet(sheet.row(), words.row_mut(), names.row_mut(), text.row_mut());
+        words.check();
+        names.check();
+        text.check();
+        assert!(sheet == unaltered, "the sheet was altered");
+        (answer, Buffers { words: words.row().to_vec(), names: names.row().to_vec(), text: text.row().to_vec() })
+    }
+
+    fn second(sheet: &[u8], lent: &Buffers) -> (u64, Buffers) {
+        let mut left = lent.clone();
+        (second_sheet(sheet, &mut left.words, &mut left.names, &mut left.text), left)
+    }
+
+    /// Both sides answer the same and leave the same bytes; if not, the smallest sheet found is shown.
+    fn compare(sheet: &[u8], lent: &Buffers, before: usize, tally: &mut Tally) {
+        let expected = second(sheet, lent);
+        sheets::note(tally, sheet, lent.text.len(), &unpacked(expected.0));
+        if engine(sheet, lent, before) != expected {
+            let sheet = without_parts(sheet, |sheet| engine(sheet, lent, before) != second(sheet, lent));
+            let ((ours, left), (theirs, right)) = (engine(&sheet, lent, before), second(&sheet, lent));
+            let first = |a: &[u8], b: &[u8]| (0..a.len()).find(|&at| a[at] != b[at]);
+            panic!(
+                "sheet \"{}\":\nengine {:?}, second {:?}\nfirst byte that differs: words {:?}, names {:?}, text {:?}",
+                sheet.escape_ascii(),
+                unpacked(ours),
+                unpacked(theirs),
+                first(&left.words, &right.words),
+                first(&left.names, &right.names),
+                first(&left.text, &right.text),
+            );
+        }
+    }
+
     /// Buffers of awkward lengths, large enough most of the time; the text room fits or just does not.
     fn buffers(chance: &mut Chance, sheet: &[u8]) -> Buffers {
         Buffers { words: random::word_bytes(chance), names: random::name_bytes(chance), text: random::text_room(chance, sheet) }
+    }
+
+    fn full(text: usize) -> Buffers {
+        Buffers { words: vec![7; 16_384], names: vec![7; 2048], text: vec![7; text] }
     }
 
     const OUTCOMES: [&str; 10] = [
@@ -301,7 +352,7 @@ mod sheet {
         for _ in 0..cases(1_000) {
             for damage in SHEET_DAMAGES {
                 let sheet = random::damaged_sheet(&mut chance, damage);
-                compare(&sheet, &Buffers::least(20_000), chance.of(&BEFORE), &mut tally);
+                compare(&sheet, &full(20_000), chance.of(&BEFORE), &mut tally);
             }
         }
         let numbers = ["sheet 7", "sheet 8", "sheet 10", "sheet 11", "sheet 12", "sheet 13", "sheet 14"];
@@ -312,7 +363,7 @@ mod sheet {
     fn short_sheets_of_few_bytes() {
         let mut chance = Chance::new(0x5ee9);
         let mut tally = Tally::default();
-        let lent = Buffers::least(60);
+        let lent = full(60);
         for _ in 0..cases(150_000) {
             let length = chance.index(14);
             let mut sheet: Vec<u8> = (0..length).map(|_| chance.of(b"ab\t\t \n\n-\nab0")).collect();
@@ -328,7 +379,7 @@ mod sheet {
     #[test]
     fn every_byte_value_at_every_place_of_a_sheet() {
         let mut tally = Tally::default();
-        let lent = Buffers::least(100);
+        let lent = full(100);
         let base = b"ab\t-c d.\te_\nab.0\n-f\t-ab g\tc\n";
         for at in 0..base.len() {
             for byte in 0..=255 {
@@ -349,7 +400,7 @@ mod sheet {
         let mut tally = Tally::default();
         let mut at = |sheet: &[u8], outcome: &str| {
             let before = tally.times(outcome);
-            compare(sheet, &Buffers::least(20_000), 13, &mut tally);
+            compare(sheet, &full(20_000), 13, &mut tally);
             assert_eq!(tally.times(outcome), before + 1, "{outcome}");
         };
         for (length, outcome) in [(1, "sheet ok"), (23, "sheet ok"), (24, "sheet ok"), (25, "sheet 11"), (26, "sheet 11")] {
@@ -437,7 +488,7 @@ mod sheet {
     fn sheets_of_65536_and_65537_bytes() {
         let mut tally = Tally::default();
         for length in [65_535, 65_536, 65_537, 65_538] {
-            compare(&long(length), &Buffers::least(20_000), 13, &mut tally);
+            compare(&long(length), &full(20_000), 13, &mut tally);
         }
         assert_eq!(tally.times("sheet 8"), 2);
         tally.expect(&["sheet ok", "sheet 8"], 2);
@@ -448,7 +499,7 @@ mod sheet {
         let mut tally = Tally::default();
         let words = |words| random::full_draft(&mut Chance::new(1), words).sheet();
         for sheet in [words(8192), words(8193), facts(512), facts(513), one_head(512), one_head(513), long(65_536), long(65_537)] {
-            let needed = unpacked(second_read(&sheet, &Buffers::least(20_000)).0).unwrap_or(100) as usize;
+            let needed = unpacked(second(&sheet, &full(20_000)).0).unwrap_or(100) as usize;
             let heads = random::lines_length(&random::heads_and_others(&sheet).0);
             // 8,191 to 8,193 whole words and 511 to 513 whole name entries, each with every number of bytes after them.
             for words in 16_382..16_388 {
@@ -495,7 +546,7 @@ mod sheet {
     fn p1_to_p12_as_sheets() {
         let mut tally = Tally::default();
         for example in EXAMPLES {
-            compare(&example.table().sheet(), &Buffers::least(400), 13, &mut tally);
+            compare(&example.table().sheet(), &full(400), 13, &mut tally);
         }
         tally.expect(&["sheet ok"], 12);
         // P3 and P9.

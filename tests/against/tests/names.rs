@@ -1,14 +1,12 @@
 //! Sheets that are awkward for an index of names, through the sheet entry over entries and the host's: the answer, every entry and every
-//! byte afterwards. And the buckets of such an index by themselves.
-
-use std::collections::BTreeMap;
+//! byte afterwards.
 
 use against::cases::{Tally, cases};
 use against::compare::{self, Buffers};
-use against::guard::{BEFORE, Guarded};
+use against::guard::BEFORE;
 use against::host;
 use against::name_sheets::{KINDS, lengths, longest_names, near_pairs, places, pools, prefix_pairs, renamed};
-use against::names::{BUCKETS, BYTES, Name, bucket, name, of_bucket};
+use against::names::{BYTES, Name, bucket, name, of_bucket};
 use against::pages::Pages;
 use against::sheets::ONLY_IN_BODIES;
 use second::random::{self, Chance};
@@ -92,7 +90,7 @@ fn the_sheets_have_the_names_that_they_should() {
     let same_bucket = |(a, b): &(Name, Name)| bucket(a) == bucket(b);
     let apart = |a: &Name, b: &Name| a.iter().zip(b).filter(|(a, b)| a != b).count();
     assert_eq!(places().count(), 300);
-    // How often one byte lets names collide is up to the engine's index.
+    // How often one byte lets names collide is up to the index.
     for (width, least) in [(1, 1), (2, 270), (8, 150)] {
         let near = near_pairs(&mut chance, width);
         assert!(near.iter().all(same_bucket) && near.iter().all(|(a, b)| a.len() == b.len() && (1..=width).contains(&apart(a, b))));
@@ -284,97 +282,4 @@ fn any_sheets_with_names_of_one_bucket() {
         "sheet ok", "sheet 7", "sheet 8", "sheet 9", "sheet 10", "sheet 11", "sheet 12", "sheet 13", "sheet 14", "sheet 15",
     ];
     tally.expect(&outcomes, cases(30));
-}
-
-mod buckets {
-    use super::*;
-
-    #[test]
-    fn a_bucket_is_below_512_and_follows_from_the_bytes_alone() {
-        let mut chance = Chance::new(0xb0c);
-        let mut pages = Pages::default();
-        let mut met = vec![false; BUCKETS];
-        for length in 0..=40 {
-            for _ in 0..40 {
-                let bytes = if chance.one_in(2) { chance.bytes(length) } else { name(&mut chance, length) };
-                let expected = bucket(&bytes);
-                assert!(expected < BUCKETS, "{bytes:?}: {expected}");
-                met[expected] = true;
-                for before in [13, 14, 15, 16] {
-                    let lent = Guarded::new(&bytes, before);
-                    assert_eq!(bucket(lent.row()), expected, "{bytes:?} at {before}");
-                    // Bytes of a name around it, as in a sheet.
-                    let around = [&vec![b'a'; before][..], &bytes, b"bcd"].concat();
-                    assert_eq!(bucket(&around[before..before + length]), expected, "{bytes:?} within others");
-                }
-                for behind in [true, false] {
-                    assert_eq!(bucket(pages.read_only(&bytes, behind)), expected, "{bytes:?} against a page");
-                }
-            }
-        }
-        let met = met.iter().filter(|&&met| met).count();
-        assert!(met > 400, "{met} buckets of {BUCKETS} were met");
-    }
-
-    /// How many names are looked at until each of these is found, once each.
-    fn looked_at(names: &[String]) -> f64 {
-        let mut chains = BTreeMap::new();
-        let place = |name: &String| {
-            let chain: &mut usize = chains.entry(bucket(name.as_bytes())).or_default();
-            *chain += 1;
-            *chain
-        };
-        names.iter().map(place).sum::<usize>() as f64 / names.len() as f64
-    }
-
-    /// Names as people write them, at most 512 of each sort.
-    fn written() -> Vec<(&'static str, Vec<String>)> {
-        let runs = || (0..400).map(|i| format!("r{:02}{:02}", 1 + i / 28, 1 + i % 28));
-        let few_runs = || runs().take(102);
-        let kinds = ["temp", "wind", "rain", "gap"];
-        let of_runs = ["arrived", "log", "mail", "gap", "scored"];
-        let tails: Vec<String> = BYTES.iter().flat_map(|&a| BYTES.iter().map(move |&b| format!("{}{}", a as char, b as char))).collect();
-        let with_tails = |length: usize| tails.iter().map(|tail| "x".repeat(length - 2) + tail).collect();
-        let mut sorts: Vec<(&'static str, Vec<String>)> = vec![
-            ("x0", (0..512).map(|i| format!("x{i}")).collect()),
-            ("x000", (0..512).map(|i| format!("x{i:03}")).collect()),
-            ("n1000", (1000..1512).map(|i| format!("n{i}")).collect()),
-            ("n0..0", (0..512).map(|i| format!("n{i:0>23}")).collect()),
-            ("arrived.r0911", runs().map(|run| format!("arrived.{run}")).collect()),
-            ("arrived.r0911, log.r0911, ..", runs().flat_map(|run| of_runs.map(|of| format!("{of}.{run}"))).collect()),
-            ("arrived.r0911, .., log.r0911, ..", of_runs.iter().flat_map(|of| few_runs().map(move |run| format!("{of}.{run}"))).collect()),
-            ("station_12.temp", (0..128).flat_map(|i| kinds.map(|kind| format!("station_{i}.{kind}"))).collect()),
-            ("cell.3.17", (0..22).flat_map(|i| (0..23).map(move |j| format!("cell.{i}.{j}"))).collect()),
-            ("c_3_17", (0..22).flat_map(|i| (0..23).map(move |j| format!("c_{i}_{j}"))).collect()),
-            ("d2026_11_15", (0..12).flat_map(|m| (1..=31).map(move |d| format!("d2026_{:02}_{d:02}", m + 1))).collect()),
-            ("run.20261115", (0..12).flat_map(|m| (1..=31).map(move |d| format!("run.2026{:02}{d:02}", m + 1))).collect()),
-            ("t00.00", (0..24).flat_map(|h| (0..60).step_by(3).map(move |m| format!("t{h:02}.{m:02}"))).collect()),
-            ("a0", (b'a'..=b'z').flat_map(|a| (0..10).map(move |b| format!("{}{b}", a as char))).collect()),
-            ("aa", (b'a'..=b'z').flat_map(|a| (b'a'..=b'z').map(move |b| format!("{}{}", a as char, b as char))).collect()),
-            ("a, b, ..", (b'a'..=b'z').map(|a| String::from(a as char)).collect()),
-            ("a, aa, ..", (1..=24).map(|length| "a".repeat(length)).collect()),
-            ("xa, 3 bytes", with_tails(3)),
-            ("x..xa, 7 bytes", with_tails(7)),
-            ("x..xa, 23 bytes", with_tails(23)),
-            ("x..xa, 24 bytes", with_tails(24)),
-        ];
-        sorts.iter_mut().for_each(|(_, names)| names.truncate(512));
-        sorts
-    }
-
-    #[test]
-    fn names_as_people_write_them_are_spread() {
-        for (sort, names) in written() {
-            let average = looked_at(&names);
-            println!("{sort}: {average:.2} of {} names", names.len());
-            assert!(average <= 2.0, "{sort}: {average:.2}");
-        }
-    }
-
-    #[test]
-    fn names_of_one_bucket_are_not() {
-        let mut chance = Chance::new(0xb0d);
-        let names: Vec<String> = of_bucket(&mut chance, 9, &[8], 99).into_iter().map(|name| String::from_utf8(name).unwrap()).collect();
-        assert_eq!(looked_at(&names), 50.0);
-    }
 }

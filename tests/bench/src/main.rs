@@ -2,7 +2,7 @@
 //! cost grows with the words (`growth`); then the question of conflict's beside evaluation (`conflict`), the writer's and the check's of reason sheets (`reasons`), that of calls
 //! that check a mark record (`marks`), and reading's (`reading`).
 //!
-//! From tests/, after `rt staticlib probe` and `rt staticlib simmerknot`: `cargo run --release -p bench`. Both sides are
+//! From tests/, after `./build probe simmerknot`: `cargo run --release -p bench`. Both sides are
 //! in this binary. The four take turns, one evaluation each, for 2 seconds a table or 401 turns, and 11 turns at least; the
 //! value room is written anew by each and not cleared between. Every turn's values are compared. Times are medians in
 //! microseconds, ratios those of the medians.
@@ -12,7 +12,6 @@ mod growth;
 mod marks;
 mod reading;
 mod reasons;
-mod sheets;
 mod turns;
 mod yardstick;
 

@@ -1,22 +1,25 @@
-//! Reading a sheet beside the second implementation's reader with two ways to look a name up: `search`, a search through the name
-//! entries from the first on, as the engine's own was before it had an index, and `hash`, std's hash map.
+//! Reading a full sheet beside the second implementation's reader with two ways to look a name up: the engine's own, a search
+//! through the name entries from the first on, and a hash map.
 //!
-//! The full sheets have as many literals as their bytes and words allow, and lack the last byte: all is read, nothing is evaluated,
-//! and the answer is 10 at the end. In the first table, all 512 names differ in their last two bytes alone, and after the first 512
-//! literals each has the last name, the worst for a search. Beside each stands a sheet with the same literals, bytes and words but one
-//! name: the difference is the lookup's share. In the second all 512 names are of one bucket of the engine's index, so that it searches
-//! through the names as `search` does; so many of their first bytes are the same. The third has sheets of ten names.
-//!
-//! Last the whole call on accepted sheets, evaluation and value sheet with it, in microseconds alone.
+//! The sheets have as many literals as their bytes and words allow, and lack the last byte: all is read, nothing is evaluated,
+//! and the answer is 10 at the end. In the worst, all names differ in their last two bytes alone, and after the first 512
+//! literals each has the last name. Beside each stands a sheet with the same literals, bytes and words but one name, where there is nothing
+//! to search: the difference is the lookup's share.
 
 use std::array::from_fn;
 use std::collections::HashMap;
 use std::hint::black_box;
 
-use against::lookup::{Lookup, read};
+use second::reader::{Reader, Reading, Role};
+use second::refusal::*;
 
-use crate::sheets::{Order, SEASON, SMALL, alike, colliding, full_sheet, ten};
 use crate::turns::{medians, timed};
+
+/// Which earlier name is equal to one.
+trait Lookup<'a>: Default {
+    fn number(&mut self, sheet: &'a [u8], entries: &[u32], name: &'a [u8]) -> Option<usize>;
+    fn note(&mut self, name: &'a [u8], number: usize);
+}
 
 /// The entries, from the first on.
 #[derive(Default)]
@@ -46,10 +49,72 @@ impl<'a> Lookup<'a> for Hash<'a> {
     }
 }
 
+/// The words and name entries of a sheet within all limits but that of 10; N and the words filled.
+fn read<'a, L: Lookup<'a>>(sheet: &'a [u8], words: &mut [u16], names: &mut [u32]) -> Result<(usize, usize), Refusal> {
+    let mut lookup = L::default();
+    let mut heads = [false; 1024];
+    let (mut n, mut filled, mut line, mut rule, mut group) = (0, 0, 0, 0, 0);
+    let mut reader = Reader::new(sheet);
+    loop {
+        let literal = match reader.next_reading() {
+            Reading::End => return Ok((n, filled)),
+            Reading::Refused(refusal) => return Err(refusal),
+            Reading::Literal(literal) => literal,
+        };
+        let (start, length, place) = (literal.name_place as usize, literal.name_length as usize, literal.place() as usize);
+        let name = &sheet[start..start + length];
+        let number = match lookup.number(sheet, &names[..n], name) {
+            Some(number) => number,
+            None if n == 512 => return refuse(NAME_513, start),
+            None => {
+                names[n] = (32 * start + length) as u32;
+                lookup.note(name, n);
+                n += 1;
+                n - 1
+            }
+        };
+        let code = 2 * number + literal.negated as usize;
+        if literal.role == Role::Head && heads[code] {
+            return refuse(SECOND_RULE_FOR_HEAD, place);
+        }
+        let (count, more) = match literal.role {
+            Role::Head => (0, 3),
+            Role::First => (words[rule + 2], 2),
+            Role::Further => (words[group], 1),
+        };
+        if count == 64 {
+            return refuse(GROUP_OR_LITERAL_65, place);
+        }
+        if filled + more > MOST_WORDS {
+            return refuse(WORDS_PASS_8192, place);
+        }
+        match literal.role {
+            Role::Head => {
+                heads[code] = true;
+                line += 1;
+                rule = filled;
+                words[rule] = code as u16;
+                words[rule + 1] = line;
+            }
+            Role::First => {
+                words[rule + 2] += 1;
+                group = filled;
+                words[group] = 1;
+                words[group + 1] = code as u16;
+            }
+            Role::Further => {
+                words[group] += 1;
+                words[filled] = code as u16;
+            }
+        }
+        filled += more;
+    }
+}
+
 /// The host's sheet entry but for evaluation and the value sheet: 0, or the refusal packed.
-fn yardstick<'a>(lookup: impl Lookup<'a>, sheet: &'a [u8], words: &mut [u8], names: &mut [u8]) -> u64 {
+fn yardstick<'a, L: Lookup<'a>>(sheet: &'a [u8], words: &mut [u8], names: &mut [u8]) -> u64 {
     let (mut word_entries, mut name_entries) = (vec![0; words.len() / 2], vec![0; names.len() / 4]);
-    let read = read(lookup, sheet, &mut word_entries, &mut name_entries);
+    let read = read::<L>(sheet, &mut word_entries, &mut name_entries);
     if read.is_err() {
         word_entries.fill(0);
         name_entries.fill(0);
@@ -63,165 +128,110 @@ fn yardstick<'a>(lookup: impl Lookup<'a>, sheet: &'a [u8], words: &mut [u8], nam
     read.map_or_else(|refusal| (u64::from(refusal.number) << 32) + refusal.place, |_| 0)
 }
 
+/// A sheet of as many literals as go into 65,536 bytes and 8,192 words, with so many names of so many bytes.
+fn full_sheet(names: usize, length: usize) -> (Vec<u8>, usize) {
+    const TAIL: &[u8] = b"abcdefghijklmnopqrstuvwxyz0123456789_.";
+    let name = |number: usize| {
+        let mut name = vec![b'x'; length - 2];
+        name.extend([TAIL[number / TAIL.len()], TAIL[number % TAIL.len()]]);
+        name
+    };
+    // A line has a head, then 64 groups of 64 literals; the second head is the last name, negated.
+    let (mut seps, mut words) = (Vec::new(), 0);
+    loop {
+        let at = seps.len() % 4097;
+        let (sep, more) = if at == 0 { (b'\n', 3) } else if at % 64 == 1 { (b'\t', 2) } else { (b' ', 1) };
+        if words + more > MOST_WORDS || (seps.len() + 1) * (length + 1) > MOST_SHEET_BYTES {
+            break;
+        }
+        seps.push(sep);
+        words += more;
+    }
+    // Negations make up the bytes that are still missing.
+    let literals = seps.len();
+    let heads = literals.div_ceil(4097);
+    let missing = (MOST_SHEET_BYTES - literals * (length + 1) - (heads - 1)).min(literals / 2);
+    let mut sheet = Vec::new();
+    for (at, sep) in seps.into_iter().enumerate() {
+        if at > 0 {
+            sheet.push(sep);
+        }
+        if at >= literals - missing || (sep == b'\n' && at > 0) {
+            sheet.push(b'-');
+        }
+        sheet.extend(name(at.min(names - 1)));
+    }
+    sheet.push(b'\n');
+    (sheet, literals)
+}
+
 struct Buffers {
     words: Vec<u8>,
     names: Vec<u8>,
-    text: Vec<u8>,
-}
-
-impl Buffers {
-    fn new(text: usize) -> Buffers {
-        Buffers { words: vec![0; 16_384], names: vec![0; 2048], text: vec![0; text] }
-    }
 }
 
 fn engine(sheet: &[u8], lent: &mut Buffers) -> u64 {
-    against::host::sheet(sheet, &mut lent.words, &mut lent.names, &mut lent.text)
+    against::host::sheet(sheet, &mut lent.words, &mut lent.names, &mut [])
 }
 
 fn search(sheet: &[u8], lent: &mut Buffers) -> u64 {
-    yardstick(Search, sheet, &mut lent.words, &mut lent.names)
+    yardstick::<Search>(sheet, &mut lent.words, &mut lent.names)
 }
 
 fn hash(sheet: &[u8], lent: &mut Buffers) -> u64 {
-    yardstick(Hash::default(), sheet, &mut lent.words, &mut lent.names)
+    yardstick::<Hash>(sheet, &mut lent.words, &mut lent.names)
 }
 
 type ReadingRun = fn(&[u8], &mut Buffers) -> u64;
 
 const RUNS: [ReadingRun; 3] = [engine, search, hash];
 
-/// The medians of runs that take turns, each on a sheet without its last byte, in microseconds.
-fn by_turns<const K: usize>(runs: [(ReadingRun, &[u8]); K]) -> [f64; K] {
-    let mut lent: [Buffers; K] = from_fn(|_| Buffers::new(0));
-    let turn = |(run, sheet): (ReadingRun, &[u8]), lent: &mut Buffers| {
-        let sheet = &sheet[..sheet.len() - 1];
-        timed(|| assert_eq!(run(black_box(sheet), black_box(lent)), (10 << 32) + sheet.len() as u64))
-    };
-    medians(|| from_fn(|i| turn(runs[i], &mut lent[i]))).0
-}
-
-/// The medians of the three on a sheet.
+/// The medians of the three, in microseconds.
 fn reading(sheet: &[u8]) -> [f64; 3] {
-    by_turns(RUNS.map(|run| (run, sheet)))
-}
-
-/// The median of the engine's whole call on an accepted sheet, in microseconds, each turn a hundred calls.
-fn whole_call(sheet: &[u8]) -> f64 {
-    let mut lent = Buffers::new(13_824);
-    let call = |lent: &mut Buffers| assert!(engine(black_box(sheet), black_box(lent)) < 1 << 32, "an accepted sheet");
-    let ([time], _) = medians(|| [timed(|| (0..100).for_each(|_| call(&mut lent)))]);
-    time / 100.0
-}
-
-/// The lengths of names that collide, and how many of their first bytes are the same.
-const COLLIDING: [(usize, usize); 3] = [(24, 1), (24, 16), (7, 1)];
-
-const RATIOS: &str = "engine | search | hash | engine / search | engine / hash";
-
-/// The three and their ratios.
-fn ratios([engine, search, hash]: [f64; 3]) -> String {
-    format!("{engine:.0} | {search:.0} | {hash:.0} | {:.2} | {:.2}", engine / search, engine / hash)
+    let mut lent: [Buffers; 3] = from_fn(|_| Buffers { words: vec![0; 16_384], names: vec![0; 2048] });
+    let expected = (10 << 32) + sheet.len() as u64;
+    medians(|| from_fn(|i| timed(|| assert_eq!(RUNS[i](black_box(sheet), black_box(&mut lent[i])), expected)))).0
 }
 
 pub fn print() {
     println!();
-    println!("| names of | bytes | literals | {RATIOS} | engine's lookup | search's lookup |");
+    println!("| names of | bytes | literals | engine | search | hash | engine / search | engine / hash | engine's lookup | search's lookup |");
     println!("|---:|---:|---:|---:|---:|---:|---:|---:|---:|---:|");
     for length in [24, 23, 7, 3] {
-        let (sheet, literals) = full_sheet(&alike(512, length), Order::Last);
-        let (one_name, _) = full_sheet(&alike(1, length), Order::Last);
-        let runs: [(ReadingRun, &[u8]); 5] =
-            [(engine, &sheet), (search, &sheet), (hash, &sheet), (engine, &one_name), (search, &one_name)];
-        let [engine, search, hash, engine_alone, search_alone] = by_turns(runs);
-        let [ours, theirs] = [1.0 - engine_alone / engine, 1.0 - search_alone / search].map(|share| 100.0 * share);
-        println!("| {length} | {} | {literals} | {} | {ours:.0} % | {theirs:.0} % |", sheet.len(), ratios([engine, search, hash]));
-    }
-    println!();
-    println!("| 512 names of one bucket, of | bytes the same | then | literals | {RATIOS} |");
-    println!("|---:|---:|---|---:|---:|---:|---:|---:|---:|");
-    for (length, same) in COLLIDING {
-        for (then, order) in [("the last", Order::Last), ("the first", Order::First), ("any", Order::Random)] {
-            let (sheet, literals) = full_sheet(&colliding(length, same), order);
-            println!("| {length} | {same} | {then} | {literals} | {} |", ratios(reading(&sheet)));
-        }
-    }
-    println!();
-    println!("| ten names of | bytes | literals | {RATIOS} |");
-    println!("|---:|---:|---:|---:|---:|---:|---:|---:|");
-    for length in [24, 7, 3] {
-        let (sheet, literals) = full_sheet(&ten(length), Order::Random);
-        println!("| {length} | {} | {literals} | {} |", sheet.len(), ratios(reading(&sheet)));
-    }
-    println!();
-    println!("| whole call on | bytes | engine |");
-    println!("|---|---:|---:|");
-    for (name, sheet) in [("the season's sheet", SEASON), ("a small sheet of ten names", SMALL)] {
-        println!("| {name} | {} | {:.2} |", sheet.len(), whole_call(sheet));
+        let (sheet, literals) = full_sheet(512, length);
+        let (one_name, _) = full_sheet(1, length);
+        let [engine, search, hash] = reading(&sheet[..sheet.len() - 1]);
+        let [engine_alone, search_alone, _] = reading(&one_name[..sheet.len() - 1]);
+        println!(
+            "| {length} | {} | {literals} | {engine:.0} | {search:.0} | {hash:.0} | {:.2} | {:.1} | {:.0} % | {:.0} % |",
+            sheet.len(),
+            engine / search,
+            engine / hash,
+            100.0 * (1.0 - engine_alone / engine),
+            100.0 * (1.0 - search_alone / search),
+        );
     }
 }
 
 #[cfg(test)]
 mod tests {
     use super::*;
-    use against::names::{Name, bucket};
-    use second::refusal::MOST_SHEET_BYTES;
-
-    /// Words and name entries as the second implementation leaves them, with N and the words filled.
-    fn second(sheet: &[u8]) -> (Vec<u16>, Vec<u32>, (usize, usize)) {
-        let (mut words, mut names, mut text) = (vec![0; 8192], vec![0; 512], vec![0; 20_000]);
-        let accepted = second::sheet::read_sheet(sheet, &mut words, &mut names, &mut text).expect("an accepted sheet");
-        (words, names, (accepted.n as usize, accepted.words_filled as usize))
-    }
-
-    fn read_by<'a>(lookup: impl Lookup<'a>, sheet: &'a [u8]) -> (Vec<u16>, Vec<u32>, (usize, usize)) {
-        let (mut words, mut names) = (vec![0; 8192], vec![0; 512]);
-        let read = read(lookup, sheet, &mut words, &mut names).expect("an accepted sheet");
-        (words, names, read)
-    }
-
-    /// Both yardsticks read what the second implementation reads, and that has so many names.
-    fn read_alike(sheet: &[u8], names: usize) {
-        let expected = second(sheet);
-        assert_eq!(expected.2.0, names);
-        assert!(read_by(Search, sheet) == expected && read_by(Hash::default(), sheet) == expected);
-    }
 
     #[test]
     fn the_yardsticks_read_what_the_second_implementation_reads() {
-        let mut lists: Vec<Vec<Name>> = Vec::new();
         for length in [3, 7, 24] {
-            lists.extend([alike(1, length), alike(512, length), ten(length)]);
-        }
-        lists.extend(COLLIDING.map(|(length, same)| colliding(length, same)));
-        for names in lists {
-            for order in [Order::Last, Order::First, Order::Random] {
-                let (sheet, literals) = full_sheet(&names, order);
-                read_alike(&sheet, names.len());
-                assert!(literals > 2600 && (names[0].len() == 3 || sheet.len() == MOST_SHEET_BYTES));
-                // Without its last byte it is refused at its end.
-                let cut = &sheet[..sheet.len() - 1];
-                let answers = RUNS.map(|run| run(cut, &mut Buffers::new(0)));
-                assert_eq!(answers, [(10 << 32) + cut.len() as u64; 3]);
+            for names in [1, 512] {
+                let (sheet, literals) = full_sheet(names, length);
+                let (mut w, mut n, mut text) = (vec![0; 8192], vec![0; 512], vec![0; 20_000]);
+                let accepted = second::sheet::read_sheet(&sheet, &mut w, &mut n, &mut text).expect("an accepted sheet");
+                assert_eq!(accepted.n as usize, names);
+                assert!(literals > 2600 && (length == 3 || sheet.len() == MOST_SHEET_BYTES));
+                for read in [read::<Search>, read::<Hash>] {
+                    let (mut words, mut entries) = (vec![0; 8192], vec![0; 512]);
+                    assert_eq!(read(&sheet, &mut words, &mut entries), Ok((names, accepted.words_filled as usize)));
+                    assert!(words == w && entries == n);
+                }
             }
         }
-    }
-
-    #[test]
-    fn names_that_should_collide_do() {
-        for (length, same) in COLLIDING {
-            let names = colliding(length, same);
-            let as_the_first = |name: &Name| name.len() == length && bucket(name) == bucket(&names[0]) && name[..same] == names[0][..same];
-            assert!(names.len() == 512 && names.iter().all(as_the_first));
-        }
-    }
-
-    #[test]
-    fn the_accepted_sheets_are() {
-        read_alike(SMALL, 10);
-        read_alike(SEASON, 23);
-        let literals = |sheet: &[u8]| sheet.iter().filter(|byte| b"\t \n".contains(byte)).count();
-        assert_eq!(literals(SMALL), 33);
-        assert!(literals(SEASON) > 40);
     }
 }

@@ -158,7 +158,7 @@ fn median(mut times: Vec<Duration>) -> f64 {
 fn main() {
     let folder = std::env::temp_dir().join(format!("simmerknot-clingo-{}", std::process::id()));
     fs::create_dir(&folder).expect("a temporary folder");
-    let program = Path::new(env!("CARGO_MANIFEST_DIR")).join("../../target/bin/simmer");
+    let program = Path::new(env!("CARGO_MANIFEST_DIR")).join("../../crates/simmer/out/simmer");
     let side = Side { folder: folder.clone(), program };
 
     for example in EXAMPLES {

@@ -34,7 +34,7 @@ pub struct Target {
     pub draw: fn(&mut Chance) -> Case,
     pub engine: Box<dyn FnMut(&Case) -> Outcome>,
     pub second: fn(&Case) -> Outcome,
-    /// "ok", "yes", "no" or the number of refusal, and what a line, names only in bodies or names of one bucket have to do with it.
+    /// "ok", "yes", "no" or the number of refusal, and what a line or names only in bodies have to do with it.
     pub kind: fn(&Case, &Outcome) -> String,
     /// The kinds that a run of some length must meet.
     pub kinds: &'static [&'static str],

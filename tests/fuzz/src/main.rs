@@ -1,7 +1,7 @@
 //! `fuzz SECONDS SEED [TARGET [CASE]]`: a sixth of the time for each of evaluation, the question of conflict, the writer and the check of
 //! reason sheets, the sheet entry and the program, and at least a thousand cases, so that a slow machine meets every outcome too.
 //!
-//! The program is target/bin/simmer, or what SIMMER names. With a target, that one alone; with the number of a case, that case alone. Status 1 at the
+//! The program is crates/simmer/out/simmer, or what SIMMER names. With a target, that one alone; with the number of a case, that case alone. Status 1 at the
 //! first case on which the two sides part, or where the engine left its buffers.
 
 use std::ffi::c_int;
@@ -58,7 +58,7 @@ fn usage() -> ! {
 fn program() -> PathBuf {
     match std::env::var_os("SIMMER") {
         Some(path) => path.into(),
-        None => PathBuf::from(env!("CARGO_MANIFEST_DIR")).join("../../target/bin/simmer"),
+        None => PathBuf::from(env!("CARGO_MANIFEST_DIR")).join("../../crates/simmer/out/simmer"),
     }
 }
 

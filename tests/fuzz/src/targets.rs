@@ -4,11 +4,8 @@
 use std::fs::{self, File};
 use std::path::PathBuf;
 use std::process::{Command, Stdio};
-use std::sync::OnceLock;
 use std::sync::atomic::{AtomicU64, Ordering};
 
-use against::name_sheets::renamed;
-use against::names::{Name, bucket, of_bucket};
 use against::pages::Pages;
 use second::host::whole_words;
 use second::random::{self, Chance};
@@ -29,15 +26,11 @@ fn table_kind(table: &[u8], outcome: &Outcome) -> String {
     if kind == "6" && random::line_places(&whole_words(table).0).contains(&place) { "6, at a line".to_string() } else { kind }
 }
 
-/// The kind of a sheet's outcome, with more said of an accepted sheet whose names are of one bucket, and where some names stand only in
-/// bodies: of an accepted sheet, and of 15 in a text room of so many bytes that the lines of the heads alone would fit.
+/// The kind of a sheet's outcome, with more said where some names stand only in bodies: of an accepted sheet, and of 15 in a text room
+/// of so many bytes that the lines of the heads alone would fit.
 fn sheet_kind(kind: String, sheet: &[u8], room: usize) -> String {
     let (heads, others) = random::heads_and_others(sheet);
-    let mut buckets = heads.iter().chain(&others).map(|name| bucket(name.of(sheet)));
-    let first = buckets.next();
-    let one_bucket = heads.len() + others.len() > 2 && buckets.all(|bucket| Some(bucket) == first);
     match kind.as_str() {
-        "ok" if one_bucket => "ok, names of one bucket".to_string(),
         "ok" if !others.is_empty() => "ok, names only in bodies".to_string(),
         "15" if room >= random::lines_length(&heads) => "15, room for the heads".to_string(),
         _ => kind,
@@ -200,23 +193,9 @@ pub fn check_reasons() -> Target {
     }
 }
 
-/// Names of one bucket, short and of any length, more than a sheet can have.
-fn one_bucket() -> &'static [Vec<Name>; 2] {
-    static NAMES: OnceLock<[Vec<Name>; 2]> = OnceLock::new();
-    let lengths = [vec![4, 5], (1..=24).collect::<Vec<usize>>()];
-    NAMES.get_or_init(|| lengths.map(|lengths| of_bucket(&mut Chance::new(0xb0cf), 511, &lengths, 530)))
-}
-
-/// A sheet, altered; once in three times it has names of one bucket.
 fn draw_sheet(chance: &mut Chance) -> Vec<u8> {
-    let mut drawn = if chance.one_in(2) { random::any_sheet(chance) } else { random::accepted_sheet(chance) };
-    let mut other = random::accepted_sheet(chance);
-    if chance.one_in(3) {
-        let [short, any] = one_bucket();
-        // Where there are many literals, long names would be too many bytes.
-        let names = if drawn.len() > 15_000 || chance.one_in(2) { short } else { any };
-        (drawn, other) = (renamed(&drawn, names), renamed(&other, names));
-    }
+    let drawn = if chance.one_in(2) { random::any_sheet(chance) } else { random::accepted_sheet(chance) };
+    let other = random::accepted_sheet(chance);
     let mut bytes = alter::sheet(chance, drawn, &other);
     bytes.truncate(200_000);
     bytes
@@ -252,19 +231,7 @@ pub fn sheet() -> Target {
         second: second_sheet,
         kind: |case, outcome| sheet_kind(packed_kind(outcome), &case.bytes, case.lent[2].len()),
         kinds: &[
-            "ok",
-            "ok, names of one bucket",
-            "ok, names only in bodies",
-            "7",
-            "8",
-            "9",
-            "10",
-            "11",
-            "12",
-            "13",
-            "14",
-            "15",
-            "15, room for the heads",
+            "ok", "ok, names only in bodies", "7", "8", "9", "10", "11", "12", "13", "14", "15", "15, room for the heads",
         ],
     }
 }
@@ -294,6 +261,6 @@ pub fn program(path: PathBuf) -> Target {
             let kind = if number.parse::<u32>().is_ok() { number } else { "ok" };
             sheet_kind(kind.to_string(), &case.bytes, usize::MAX)
         },
-        kinds: &["ok", "ok, names of one bucket", "ok, names only in bodies", "7", "8", "10", "11", "12", "13", "14"],
+        kinds: &["ok", "ok, names only in bodies", "7", "8", "10", "11", "12", "13", "14"],
     }
 }

@@ -1,13 +1,10 @@
 //! Wrong engines are noticed within so many cases, and so is a byte outside a buffer.
 
-use std::collections::BTreeMap;
 use std::process::Command;
 
-use against::lookup::{Lookup, read};
-use against::names::bucket;
 use fuzz::{Case, Outcome, Target, run, targets};
 use second::host::whole_words;
-use second::random::{entry_bytes, heads_and_others, line_places, lines_length, table_bytes};
+use second::random::{heads_and_others, line_places, lines_length, table_bytes};
 use second::truth::I;
 
 /// The target with a fault laid over its engine's outcomes parts from the second implementation within so many cases.
@@ -351,52 +348,8 @@ fn sheet_with_15_that_counts_the_lines_of_the_heads_alone() {
     });
 }
 
-/// For each bucket its first name and that name's number; others of the bucket are not found, or taken for it.
-#[derive(Default)]
-struct FirstOfEachBucket<'a> {
-    first: BTreeMap<usize, (&'a [u8], usize)>,
-    taken_for_it: bool,
-}
-
-impl<'a> Lookup<'a> for FirstOfEachBucket<'a> {
-    fn number(&mut self, _sheet: &'a [u8], _entries: &[u32], name: &'a [u8]) -> Option<usize> {
-        let (first, number) = *self.first.get(&bucket(name))?;
-        (self.taken_for_it || first == name).then_some(number)
-    }
-
-    fn note(&mut self, name: &'a [u8], number: usize) {
-        self.first.entry(bucket(name)).or_insert((name, number));
-    }
-}
-
-/// An accepted sheet's words and name entries as such an index gives them, or its refusal.
-fn by_first_of_each_bucket(case: &Case, outcome: &mut Outcome, taken_for_it: bool) {
-    if number(outcome) > 0 {
-        return;
-    }
-    let index = FirstOfEachBucket { taken_for_it, ..Default::default() };
-    let (mut words, mut names) = (vec![0; 8192], vec![0; 512]);
-    match read(index, &case.bytes, &mut words, &mut names) {
-        Ok(_) => {
-            outcome.left[0][..16_384].copy_from_slice(&table_bytes(&words));
-            outcome.left[1][..2048].copy_from_slice(&entry_bytes(&names));
-        }
-        Err(refusal) => outcome.answer = (u64::from(refusal.number) << 32) + refusal.place,
-    }
-}
-
-#[test]
-fn sheet_that_finds_the_first_name_of_a_bucket_alone() {
-    noticed(targets::sheet(), 50, |case, outcome| by_first_of_each_bucket(case, outcome, false));
-}
-
-#[test]
-fn sheet_that_takes_names_of_one_bucket_for_one() {
-    noticed(targets::sheet(), 50, |case, outcome| by_first_of_each_bucket(case, outcome, true));
-}
-
 fn simmer() -> Target {
-    targets::program(concat!(env!("CARGO_MANIFEST_DIR"), "/../../target/bin/simmer").into())
+    targets::program(concat!(env!("CARGO_MANIFEST_DIR"), "/../../crates/simmer/out/simmer").into())
 }
 
 #[test]
