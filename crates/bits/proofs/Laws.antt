@@ -281,7 +281,8 @@ pub count_turn : (s : List ℕ) (w : ℕ) {n x : ℕ} → get_or s w 0 < 2 ^ 64 
     → n + ones x ≡ count (64 * (w + 1)) (member s)
 count_turn s w h e inv = ap₂ (λ (m y : ℕ). m + ones y) inv e ∙ sym (count_word s w h)
 
-pub lowest_turn : (s : List ℕ) (n i w : ℕ) {x : ℕ} → i ≤ 64 * w → 64 * (w + 1) ≤ i + n → get_or s w 0 < 2 ^ 64 → x ≡ get_or s w 0 → x ≢ 0
+pub lowest_turn : (s : List ℕ) (n i w : ℕ) {x : ℕ} → i ≤ 64 * w → 64 * (w + 1) ≤ i + n → get_or s w 0 < 2 ^ 64 → x ≡ get_or s w 0
+    → x ≢ 0
     → ((j : ℕ) → i ≤ j → j < 64 * w → member s j ≡ false) → At (64 * w + count_trailing_zeros 64 x) ≡ lowest_from n i (member s)
 lowest_turn s n i w from room h e ne below =
     ap (λ (y : ℕ). At (64 * w + count_trailing_zeros 64 y)) e

@@ -20,7 +20,8 @@ module _ (N : ℕ) (t u : List ℕ) (alike : Alike t u) where
   pub same_evaluation : (room : ℕ) → evaluation_fault N u room ≡ evaluation_fault N t room
   unfolding evaluation_fault
   same_evaluation room =
-      ap₂ (λ (n : ℕ) (c : Checked). or_else (too_many_atoms_fault N) (or_else (asking (leb n 8192) table_too_long Accepted) (or_else (room_too_small N room) c)))
+      ap₂ (λ (n : ℕ) (c : Checked). or_else (too_many_atoms_fault N)
+      (or_else (asking (leb n 8192) table_too_long Accepted) (or_else (room_too_small N room) c)))
       (sym alike.lengths) (sym (alike.checks N))
 
   -- what the promise allows for the one it allows for the other

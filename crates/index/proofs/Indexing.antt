@@ -121,7 +121,8 @@ module _ (t : List ℕ) (table : Table t) where
               stands = ⊎_elim inl (λ (s : LiteralAt G l (last_in x l) × (last_in x l < g)). inr (s.0, (let k = s.1 in omega arith))) w.stands;
             });
         earlier = λ l c a k.
-            subst⁻¹ (Latest G l c) (get_or-set_other x (g + 9216) (c + 1024) h 0 (λ e. let lt = literal_inside t table l c a in let s = short in omega arith))
+            subst⁻¹ (Latest G l c) (get_or-set_other x (g + 9216) (c + 1024) h 0
+            (λ e. let lt = literal_inside t table l c a in let s = short in omega arith))
             (ix.earlier l c a (before l c a k));
         owner = λ γ i n lt k.
             let less = before (get_or γ.literals n 0) (literals_at γ.at + n)

@@ -170,7 +170,8 @@ group_among h p (β' ∷ βs) β m =
     record { group = q.group; one = Memᴰ.tail q.one; head = q.head; literals = q.literals })
     (Memᴰ.cases_cons m)
 
-pub group_in_lem : (p : ℕ) (Q : List TableRecord) (ρ : Rule) (β : List ℕ) → ρ ∈ rules_in Q → β ∈ ρ.groups → GroupOf (placed_in p Q) ρ.head β
+pub group_in_lem : (p : ℕ) (Q : List TableRecord) (ρ : Rule) (β : List ℕ) → ρ ∈ rules_in Q → β ∈ ρ.groups
+    → GroupOf (placed_in p Q) ρ.head β
 unfolding placed_in
 group_in_lem p [] ρ β m n = absurd (Memᴰ.not-nil m)
 group_in_lem p (r ∷ Q) ρ β m n =
@@ -203,7 +204,8 @@ unfolding placed_groups groups_words placed_in
 cursor_record t p h c lt = by c.groups c.many c.words c.past c.come
   where
     by : (βs : List (List ℕ)) → length βs ≡ 0 → drop p t ≡ groups_words βs ++ words_of c.records
-        → ((γ : Placed) → γ ∈ placed_of t → (end_of γ ≤ p) ⊎ (γ ∈ placed_groups h p βs ++ placed_in (p + length (groups_words βs)) c.records))
+        → ((γ : Placed) → γ ∈ placed_of t → (end_of γ ≤ p)
+        ⊎ (γ ∈ placed_groups h p βs ++ placed_in (p + length (groups_words βs)) c.records))
         → ((γ : Placed) → γ ∈ placed_groups h p βs ++ placed_in (p + length (groups_words βs)) c.records → γ ∈ placed_of t)
         → (groups_at p < length t) × Cursor t (body_at p) (get_or t p 0) (get_or t (groups_at p) 0)
     by (β ∷ βs) none w past come = absurd (omega arith)
@@ -269,7 +271,8 @@ unfolding placed_groups groups_words
 cursor_front t g h m c = by c.groups c.many c.words c.past c.come
   where
     by : (βs : List (List ℕ)) → length βs ≡ suc m → drop g t ≡ groups_words βs ++ words_of c.records
-        → ((γ : Placed) → γ ∈ placed_of t → (end_of γ ≤ g) ⊎ (γ ∈ placed_groups h g βs ++ placed_in (g + length (groups_words βs)) c.records))
+        → ((γ : Placed) → γ ∈ placed_of t → (end_of γ ≤ g)
+        ⊎ (γ ∈ placed_groups h g βs ++ placed_in (g + length (groups_words βs)) c.records))
         → ((γ : Placed) → γ ∈ placed_groups h g βs ++ placed_in (g + length (groups_words βs)) c.records → γ ∈ placed_of t)
         → Front t g h m
     by [] none w past come = absurd (omega arith)

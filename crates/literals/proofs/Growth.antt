@@ -208,7 +208,8 @@ on_rule a Further k Q x c at end =
 grouped : (f : List (List ℕ) → List (List ℕ)) (Q : List TableRecord) (x : ℕ) → Some Q → Some (f (last_groups Q))
     → x ≡ body_at (length (words_of (but_last Q))) + length (groups_words (but_last (f (last_groups Q))))
     → Some (last_groups (on_last (change_groups f) Q))
-    × (x ≡ body_at (length (words_of (but_last (on_last (change_groups f) Q)))) + length (groups_words (but_last (last_groups (on_last (change_groups f) Q)))))
+    × (x ≡ body_at (length (words_of (but_last (on_last (change_groups f) Q)))) + length
+    (groups_words (but_last (last_groups (on_last (change_groups f) Q)))))
 grouped f Q x some here e = (
   subst Some (sym (changed_groups f Q some)) here,
   e ∙ ap₂ (λ (Q' : List TableRecord) (βs : List (List ℕ)). body_at (length (words_of Q')) + length (groups_words (but_last βs)))

@@ -45,7 +45,8 @@ module _ (R : List Rule) (A : Marks) (H C : ℕ → Bool) (h : IsHeld R A H) (c 
         or_right (H (positive a) && H (negative a)) (held_not_clean H C (positive a) || held_not_clean H C (negative a))
         (⊎_elim
         (λ (y : HeldNotClean R A (positive a)). or_left (held_not_clean H C (positive a)) (held_not_clean H C (negative a)) (→held_not_clean (positive a) y))
-        (λ (y : HeldNotClean R A (negative a)). or_right (held_not_clean H C (positive a)) (held_not_clean H C (negative a)) (→held_not_clean (negative a) y)) x))
+        (λ (y : HeldNotClean R A (negative a)). or_right (held_not_clean H C (positive a)) (held_not_clean H C (negative a))
+        (→held_not_clean (negative a) y)) x))
         m.because),
   )
 

@@ -38,7 +38,8 @@ module _ (S : ℕ → Bool) where
   some_wholly→ [] h = absurd h
   some_wholly→ (γ ∷ βs) h = step (or_cases (wholly S γ) (some_wholly S βs) h) (λ k. some_wholly→ βs k)
     where
-      step : T (wholly S γ) ⊎ T (some_wholly S βs) → (T (some_wholly S βs) → (β : List ℕ) × (β ∈ βs) × ((ι : ℕ) → ι ∈ β → T (S ι)))
+      step : T (wholly S γ) ⊎ T (some_wholly S βs)
+          → (T (some_wholly S βs) → (β : List ℕ) × (β ∈ βs) × ((ι : ℕ) → ι ∈ β → T (S ι)))
           → (β : List ℕ) × (β ∈ (γ ∷ βs)) × ((ι : ℕ) → ι ∈ β → T (S ι))
       step (inl w) r = (γ, Memᴰ.head refl, wholly→ γ w)
       step (inr s) r = let q = r s in (q.0, Memᴰ.tail q.1, q.2)

@@ -296,7 +296,8 @@ module _ (t x : List ℕ) (ix : IndexOf t x) (S : ℕ → Bool) (l : ℕ) (new :
             inside p k = ⊎_elim (with_⊇ S l (get_or t p 0))
                 (λ (b : T (eqb (get_or t p 0) l && ltb (earlier_in x c) p)).
                 subst⁻¹ (λ (y : ℕ). T ((S with l) y))
-                (eqb-true (get_or t p 0) l (T→true _ (Rattle.sets.proofs.Tests.and_left (eqb (get_or t p 0) l) (ltb (earlier_in x c) p) b))) (with_itself S l))
+                (eqb-true (get_or t p 0) l (T→true _ (Rattle.sets.proofs.Tests.and_left (eqb (get_or t p 0) l) (ltb (earlier_in x c) p) b)))
+                (with_itself S l))
                 (or_cases (S (get_or t p 0)) (eqb (get_or t p 0) l && ltb (earlier_in x c) p) k)
 
         other_whole : (γ : Placed) → (m : γ ∈ placed_of t) → (γ.at ≡ g → ⊥)

@@ -47,7 +47,8 @@ only_its_own_atom (PickAllows.cannot_be_marked_now e u n) = (refl, λ b n'. refl
 
 -- a pick answers `marked` exactly when its atom can be marked, if it is not refused there
 marks_exactly_when_it_may : {r : MarkRecord} {t : List ℕ} {a : ℕ} {r' : MarkRecord} {answer : PickAnswer} → PickAllows r t a answer r'
-    → (CanBeMarked (rules_of t) (marks_of r) a → pick_fault r t a ≡ Accepted) → (answer ≡ PickAnswer.Marked) ↔ CanBeMarked (rules_of t) (marks_of r) a
+    → (CanBeMarked (rules_of t) (marks_of r) a → pick_fault r t a ≡ Accepted)
+    → (answer ≡ PickAnswer.Marked) ↔ CanBeMarked (rules_of t) (marks_of r) a
 marks_exactly_when_it_may (PickAllows.refused {f} e) h =
     ((λ p. let z : ◌≡◌ {A = ℕ} 0 1 = cc in absurd (omega arith)), λ c. absurd (refused≢accepted f (sym e ∙ h c)))
 marks_exactly_when_it_may {r} {a = a} (PickAllows.already_marked e m) h =
@@ -99,12 +100,14 @@ module _ (N : ℕ) (t : List ℕ) (accepted : AcceptedTable N t) {l : List ℕ} 
       )
 
   -- and the marks are as many as the inconsistent atoms, which is what the mark count answers
-  as_many_inconsistent : Settled (rules_of t) (marks_of r) → (I : Interpretation) → Smallest (rules_of t) I → marks_counted r ≡ count 512 (inconsistent I)
+  as_many_inconsistent : Settled (rules_of t) (marks_of r) → (I : Interpretation) → Smallest (rules_of t) I → marks_counted r
+      ≡ count 512 (inconsistent I)
   as_many_inconsistent s I i =
       let q = picks_marking N t accepted picks in
       count_≡ 512 (marks_of r) (inconsistent I) (λ a h. marks_are_inconsistent (rules_of t) (accepted_one_rule N t accepted) q.1.1 s I i a)
 
-  pub count_after_picks : Settled (rules_of t) (marks_of r) → (I : Interpretation) → Smallest (rules_of t) I → {answer : Numbered} → CountAllows r answer
+  pub count_after_picks : Settled (rules_of t) (marks_of r) → (I : Interpretation) → Smallest (rules_of t) I → {answer : Numbered}
+      → CountAllows r answer
       → answer ≡ Numbered.Number (count 512 (inconsistent I))
   count_after_picks s I i o = counts N t accepted r reached o ∙ ap Numbered.Number (as_many_inconsistent s I i)
 

@@ -209,7 +209,8 @@ module _ (R : List Rule) (A : Marks) (I : Interpretation) (is_held_lem : IsHeld 
 
       -- each line is justified
       pub found_justified : (l : ℕ) → T (I l)
-          → Justified R I (λ x y. rank_of (reasons_found R A) x < rank_of (reasons_found R A) y) l (head_of (reasons_found R A) l) (group_of (reasons_found R A) l)
+          → Justified R I (λ x y. rank_of (reasons_found R A) x < rank_of (reasons_found R A) y) l (head_of (reasons_found R A) l)
+          (group_of (reasons_found R A) l)
       found_justified l m = justified_mono (λ x y b. b.2) (found_sound.sound.line l ((found_exactly l).1 m))
 
       -- and all that it says is small

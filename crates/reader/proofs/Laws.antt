@@ -142,13 +142,15 @@ literal_read s p l e =
     space fits false q f = absurd (refused_is_no_literal _ l f)
 
     tab : length s ≤ 65536 → (b : Bool) → is_tab (byte_before s p) ≡ b
-        → cond b (literal_at s p First) (cond (is_space (byte_before s p)) (literal_at s p Further) (Refused (wrong_byte p))) ≡ Literal l → LiteralRead s p l
+        → cond b (literal_at s p First) (cond (is_space (byte_before s p)) (literal_at s p Further) (Refused (wrong_byte p))) ≡ Literal l
+        → LiteralRead s p l
     tab fits true q f = in_role_of s p 9 First l fits (eqb-true (byte_before s p) 9 q) refl f
     tab fits false q f = space fits (is_space (byte_before s p)) refl f
 
     line : length s ≤ 65536 → (b : Bool) → is_line_end (byte_before s p) ≡ b
         → cond b (line_at s p)
-        (cond (is_tab (byte_before s p)) (literal_at s p First) (cond (is_space (byte_before s p)) (literal_at s p Further) (Refused (wrong_byte p)))) ≡ Literal l
+        (cond (is_tab (byte_before s p)) (literal_at s p First) (cond (is_space (byte_before s p)) (literal_at s p Further) (Refused (wrong_byte p))))
+        ≡ Literal l
         → LiteralRead s p l
     line fits true q f = in_role_of s p 10 Head l fits (eqb-true (byte_before s p) 10 q) refl (line_literal s p l f)
     line fits false q f = tab fits (is_tab (byte_before s p)) refl f

@@ -147,9 +147,11 @@ module _ (N : ℕ) (t : List ℕ) (table : AcceptedTable N t) {n : ℕ} (A : Mar
     unfolding sheet_by lines_found
     sheet_is =
         ap (λ (S : Interpretation).
-        reason_text (map (line_for (rank_of (reasons_found R A)) (head_of (reasons_found R A)) (group_of (reasons_found R A))) (literals_below S (2 * N)))) ranked_is
+        reason_text (map (line_for (rank_of (reasons_found R A)) (head_of (reasons_found R A)) (group_of (reasons_found R A))) (literals_below S (2 * N))))
+        ranked_is
 
-    small : (l : ℕ) → T (I l) → (rank_of (reasons_found R A) l < 1024) × (head_of (reasons_found R A) l < 1024) × (group_of (reasons_found R A) l ≤ 64)
+    small : (l : ℕ) → T (I l) → (rank_of (reasons_found R A) l < 1024) × (head_of (reasons_found R A) l < 1024)
+        × (group_of (reasons_found R A) l ≤ 64)
     small l m = let q = found_small R A I held heads settled one_rule marking 64 few l m in (q.rank_small, q.head_small, q.group_small)
 
     within : length (sheet_by N R A) ≤ most_reason_bytes

@@ -80,58 +80,59 @@ record Listed (s : List ℕ) (count : ℕ) (es : List ℕ) : Type 0 where
 pub same_literal : (k l : SheetLiteral) → Literal k ≡ Literal l → k ≡ l
 same_literal k l e = cc e
 
-module _ (s : List ℕ) (count : ℕ) (es : List ℕ) (listed : Listed s count es) (l : SheetLiteral) (is : reading_at s (reached s 0 count) ≡ Literal l) where
-  abbrev name : List ℕ
-  name = bytes_at s l.start l.len
+module _ (s : List ℕ) (count : ℕ) (es : List ℕ) (listed : Listed s count es) (l : SheetLiteral) (is : reading_at s (reached s 0 count) ≡ Literal l)
+  where
+    abbrev name : List ℕ
+    name = bytes_at s l.start l.len
 
-  abbrev entry : ℕ
-  entry = entry_for l.start l.len
+    abbrev entry : ℕ
+    entry = entry_for l.start l.len
 
-  short : l.len < 32
-  short = omega (arith, (literal_read s (reached s 0 count) l is).named.at_most_24)
+    short : l.len < 32
+    short = omega (arith, (literal_read s (reached s 0 count) l is).named.at_most_24)
 
-  -- a new name, and its entry
-  module _ (new : number_in s es name < length es → ⊥) where
-    abbrev more : List ℕ
-    more = es ++ (entry ∷ [])
+    -- a new name, and its entry
+    module _ (new : number_in s es name < length es → ⊥) where
+      abbrev more : List ℕ
+      more = es ++ (entry ∷ [])
 
-    differs : (a : ℕ) → a < length es → name_of s (get_or es a 0) ≡ name → ⊥
-    differs a h e = new (number_new s es name a h e)
+      differs : (a : ℕ) → a < length es → name_of s (get_or es a 0) ≡ name → ⊥
+      differs a h e = new (number_new s es name a h e)
 
-    apart_more : (a b : ℕ) → Below 0 es entry a → Below 0 es entry b → name_of s (get_or more a 0) ≡ name_of s (get_or more b 0) → a ≡ b
-    apart_more a b (inl x) (inl y) e = listed.apart a b x.0 y.0 (sym (ap (name_of s) x.1) ∙ e ∙ ap (name_of s) y.1)
-    apart_more a b (inl x) (inr y) e = absurd (differs a x.0 (sym (ap (name_of s) x.1) ∙ e ∙ ap (name_of s) y.1 ∙ entry_name s l short))
-    apart_more a b (inr x) (inl y) e = absurd (differs b y.0 (sym (ap (name_of s) y.1) ∙ sym e ∙ ap (name_of s) x.1 ∙ entry_name s l short))
-    apart_more a b (inr x) (inr y) e = x.0 ∙ sym y.0
+      apart_more : (a b : ℕ) → Below 0 es entry a → Below 0 es entry b → name_of s (get_or more a 0) ≡ name_of s (get_or more b 0) → a ≡ b
+      apart_more a b (inl x) (inl y) e = listed.apart a b x.0 y.0 (sym (ap (name_of s) x.1) ∙ e ∙ ap (name_of s) y.1)
+      apart_more a b (inl x) (inr y) e = absurd (differs a x.0 (sym (ap (name_of s) x.1) ∙ e ∙ ap (name_of s) y.1 ∙ entry_name s l short))
+      apart_more a b (inr x) (inl y) e = absurd (differs b y.0 (sym (ap (name_of s) y.1) ∙ sym e ∙ ap (name_of s) x.1 ∙ entry_name s l short))
+      apart_more a b (inr x) (inr y) e = x.0 ∙ sym y.0
 
-    written_more : (a : ℕ) → Below 0 es entry a → Written s (name_of s (get_or more a 0))
-    written_more a (inl x) = subst (λ (f : ℕ). Written s (name_of s f)) (sym x.1) (listed.written a x.0)
-    written_more a (inr x) = (count, l, is, ap (name_of s) x.1 ∙ entry_name s l short)
+      written_more : (a : ℕ) → Below 0 es entry a → Written s (name_of s (get_or more a 0))
+      written_more a (inl x) = subst (λ (f : ℕ). Written s (name_of s f)) (sym x.1) (listed.written a x.0)
+      written_more a (inr x) = (count, l, is, ap (name_of s) x.1 ∙ entry_name s l short)
 
-  still_listed : (b : Bool) → ltb (number_in s es name) (length es) ≡ b
-      → Apart s (cond b es (es ++ (entry ∷ []))) × EachWritten s (cond b es (es ++ (entry ∷ [])))
-  still_listed true q = (listed.apart, listed.written)
-  still_listed false q =
-      let new : (number_in s es name < length es → ⊥) = λ h. omega (arith, ltb-false (number_in s es name) (length es) q) in (
-        λ a b h h'. apart_more new a b (below_snoc 0 es entry a h) (below_snoc 0 es entry b h'),
-        λ a h. written_more new a (below_snoc 0 es entry a h),
-      )
+    still_listed : (b : Bool) → ltb (number_in s es name) (length es) ≡ b
+        → Apart s (cond b es (es ++ (entry ∷ []))) × EachWritten s (cond b es (es ++ (entry ∷ [])))
+    still_listed true q = (listed.apart, listed.written)
+    still_listed false q =
+        let new : (number_in s es name < length es → ⊥) = λ h. omega (arith, ltb-false (number_in s es name) (length es) q) in (
+          λ a b h h'. apart_more new a b (below_snoc 0 es entry a h) (below_snoc 0 es entry b h'),
+          λ a h. written_more new a (below_snoc 0 es entry a h),
+        )
 
-  listed_after : Listed s (suc count) (with_name (atom_of s es l) l es)
-  unfolding with_name
-  listed_after =
-      let still = still_listed (ltb (number_in s es name) (length es)) refl in
-      record { apart = still.0; written = still.1; entered = λ i h k e. entered i h k e (ltb i count) refl }
-    where
-      entered : (i : ℕ) → i < suc count → (k : SheetLiteral) → reading_at s (reached s 0 i) ≡ Literal k → (b : Bool) → ltb i count ≡ b
-          → (a : ℕ) × NamedBy s (with_name (atom_of s es l) l es) a (bytes_at s k.start k.len)
-      entered i h k e true q =
-          let old = listed.entered i (ltb-true i count q) k e in (old.0, name_stays s es (atom_of s es l) old.0 l _ old.1)
-      entered i h k e false q =
-          let last : i ≡ count = omega (arith, ltb-false i count q) in
-          let same = same_literal l k (sym is ∙ ap (λ (x : ℕ). reading_at s (reached s 0 x)) (sym last) ∙ e) in
-          subst (λ (m : SheetLiteral). (a : ℕ) × NamedBy s (with_name (atom_of s es l) l es) a (bytes_at s m.start m.len)) same
-          (atom_of s es l, name_new s es l short)
+    listed_after : Listed s (suc count) (with_name (atom_of s es l) l es)
+    unfolding with_name
+    listed_after =
+        let still = still_listed (ltb (number_in s es name) (length es)) refl in
+        record { apart = still.0; written = still.1; entered = λ i h k e. entered i h k e (ltb i count) refl }
+      where
+        entered : (i : ℕ) → i < suc count → (k : SheetLiteral) → reading_at s (reached s 0 i) ≡ Literal k → (b : Bool) → ltb i count ≡ b
+            → (a : ℕ) × NamedBy s (with_name (atom_of s es l) l es) a (bytes_at s k.start k.len)
+        entered i h k e true q =
+            let old = listed.entered i (ltb-true i count q) k e in (old.0, name_stays s es (atom_of s es l) old.0 l _ old.1)
+        entered i h k e false q =
+            let last : i ≡ count = omega (arith, ltb-false i count q) in
+            let same = same_literal l k (sym is ∙ ap (λ (x : ℕ). reading_at s (reached s 0 x)) (sym last) ∙ e) in
+            subst (λ (m : SheetLiteral). (a : ℕ) × NamedBy s (with_name (atom_of s es l) l es) a (bytes_at s m.start m.len)) same
+            (atom_of s es l, name_new s es l short)
 
 listed_on : (s : List ℕ) (count : ℕ) (sofar : Sofar) (l : SheetLiteral) → reading_at s (reached s 0 count) ≡ Literal l
     → literal_fault s (reached s 0 count) sofar l ≡ Accepted → Listed s count sofar.names → Listed s (suc count) (after s sofar l).names

@@ -28,7 +28,8 @@ returns c =
         clean_is = c.clean_without-clean.ensures (member c.args.marks.now) c.requires.5.pairs;
         over = c.mark_all.ensures.round_over;
       };
-      standing = standing_on _ _ c.requires.0 _ _ _ _ _ _ _ _ _ _ c.requires.4.marks_length c.requires.5.shut_row c.requires.5.pairs c.close.ensures.working c.close.ensures.none_ready (closed_held (member c.args.marks.now) _ _ _ _ _ _ _
+      standing = standing_on _ _ c.requires.0 _ _ _ _ _ _ _ _ _ _ c.requires.4.marks_length c.requires.5.shut_row c.requires.5.pairs c.close.ensures.working
+          c.close.ensures.none_ready (closed_held (member c.args.marks.now) _ _ _ _ _ _ _
           (member_of_zeros 16) c.requires.4.held c.requires.5.pending c.requires.5.marked c.close.ensures) c.mark_all.ensures.round_over
           c.mark_all.ensures.shut_after c.mark_all.ensures.ready_after;
     }

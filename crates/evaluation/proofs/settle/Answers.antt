@@ -34,7 +34,8 @@ loop-again-init c = (
       (first_clean c.args.table.now c.args.facts _ _ _ c.requires.2 c.close.ensures) c.mark_all-again.ensures.round_over,
   standing_on _ _
       c.requires.0 _ _ _ _ _ _ _ _ _ _ (length-replicate {A = ℕ} 8 0) (length-replicate {A = ℕ} 16 0) no_pairs c.close.ensures.working
-      c.close.ensures.none_ready (clean_held _ _ (first_clean c.args.table.now c.args.facts _ _ _ c.requires.2 c.close.ensures)) c.mark_all-again.ensures.round_over c.mark_all-again.ensures.shut_after c.mark_all-again.ensures.ready_after,
+      c.close.ensures.none_ready (clean_held _ _ (first_clean c.args.table.now c.args.facts _ _ _ c.requires.2 c.close.ensures))
+      c.mark_all-again.ensures.round_over c.mark_all-again.ensures.shut_after c.mark_all-again.ensures.ready_after,
 )
 
 pub slice_bounds-round-end : goal.slice_bounds-round-end
@@ -58,7 +59,8 @@ round-again-requires c =
 
 pub loop-again-smaller : goal.loop-again-smaller
 loop-again-smaller c =
-    round_falls (rules_of c.args.table.now) c.args.n c.requires.3 c.requires.0 _ _ _ _ _ c.loop-again.invariant.0.begun c.round-again.ensures.round _ c.loop-again-test.true
+    round_falls (rules_of c.args.table.now) c.args.n c.requires.3 c.requires.0 _ _ _ _ _ c.loop-again.invariant.0.begun c.round-again.ensures.round _
+    c.loop-again-test.true
 
 pub loop-again-preserved : goal.loop-again-preserved
 loop-again-preserved c = (

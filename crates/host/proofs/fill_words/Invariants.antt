@@ -6,7 +6,8 @@ use Rattle.host.proofs.fill_words.Given as goal
 
 abbrev pub invariant-loop-i : goal.invariant-loop-i
 invariant-loop-i l =
-    (l.i ≤ length l.bytes / 2) × (l.m ≡ length l.bytes / 2) × (length l.words ≡ length l.initial.words) × (l.words ≡ filled l.bytes l.initial.words l.i)
+    (l.i ≤ length l.bytes / 2) × (l.m ≡ length l.bytes / 2) × (length l.words ≡ length l.initial.words)
+    × (l.words ≡ filled l.bytes l.initial.words l.i)
 
 abbrev pub decreases-loop-i : goal.decreases-loop-i
 decreases-loop-i l =

@@ -31,7 +31,8 @@ loop-left-preserved c = (
       _ c.requires.0 _ _ _ (subst (λ (n : ℕ). Cursor c.args.table.now c.loop-left.at c.args.head n) (omega (
         arith,
         c.loop-left-test.true,
-      )) c.loop-left.invariant.0) _ c.index_group-at.ensures.value ∙ ap (λ (n : ℕ). drop_groups n (drop c.loop-left.at c.args.table.now)) (omega (arith, c.loop-left-test.true)) ∙ c.loop-left.invariant.2,
+      )) c.loop-left.invariant.0) _ c.index_group-at.ensures.value
+      ∙ ap (λ (n : ℕ). drop_groups n (drop c.loop-left.at c.args.table.now)) (omega (arith, c.loop-left-test.true)) ∙ c.loop-left.invariant.2,
   omega (
     arith,
     c.index_group-at.ensures.value,

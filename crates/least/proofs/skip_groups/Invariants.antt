@@ -7,7 +7,8 @@ use Rattle.least.proofs.skip_groups.Given as goal
 
 abbrev pub invariant-loop-left : goal.invariant-loop-left
 invariant-loop-left l =
-    (l.at ≤ length l.table) × (l.first ≤ l.at) × (WholeGroups l.left (drop l.at l.table)) × (drop_groups l.left (drop l.at l.table) ≡ drop_groups l.m (drop l.first l.table))
+    (l.at ≤ length l.table) × (l.first ≤ l.at) × (WholeGroups l.left (drop l.at l.table))
+    × (drop_groups l.left (drop l.at l.table) ≡ drop_groups l.m (drop l.first l.table))
 
 abbrev pub decreases-loop-left : goal.decreases-loop-left
 decreases-loop-left l =

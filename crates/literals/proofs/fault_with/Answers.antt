@@ -15,7 +15,12 @@ returns-then-repeated c =
 pub returns-then-body-gt-MOST_IN_BODY : goal.returns-then-body-gt-MOST_IN_BODY
 unfolding fault_with
 returns-then-body-gt-MOST_IN_BODY c =
-    simp (le-leb _ _ c.if-names-gt-MOST_ATOMS.false, c.if-repeated.false, lt-leb _ _ c.if-body-gt-MOST_IN_BODY.true, c.refused-then-body-gt-MOST_IN_BODY.ensures)
+    simp (
+      le-leb _ _ c.if-names-gt-MOST_ATOMS.false,
+      c.if-repeated.false,
+      lt-leb _ _ c.if-body-gt-MOST_IN_BODY.true,
+      c.refused-then-body-gt-MOST_IN_BODY.ensures,
+    )
 
 pub returns-then-words-gt-MOST_WORDS : goal.returns-then-words-gt-MOST_WORDS
 unfolding fault_with

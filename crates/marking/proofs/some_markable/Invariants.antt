@@ -8,7 +8,8 @@ use Rattle.marking.proofs.some_markable.Given as goal
 abbrev pub invariant-loop-a : goal.invariant-loop-a
 invariant-loop-a l =
     (l.a ≤ l.n)
-    × (some_below (markable (member l.marks) (member l.held) (member l.clean)) l.a ≡ some_below (markable (member l.marks) (member l.held) (member l.clean)) l.n)
+    × (some_below (markable (member l.marks) (member l.held) (member l.clean)) l.a
+    ≡ some_below (markable (member l.marks) (member l.held) (member l.clean)) l.n)
 
 abbrev pub decreases-loop-a : goal.decreases-loop-a
 decreases-loop-a l =

@@ -16,8 +16,13 @@ loop-again-smaller c =
     step_falls _ _ _ _ _ _ _ _ _ c.loop-again-test.true c.step-again.ensures
 
 pub loop-again-preserved : goal.loop-again-preserved
-loop-again-preserved c =
-    (c.loop-again.invariant.0, c.step-again.ensures.working, c.step-again.ensures.closing _ _ c.loop-again.invariant.2, none_left _ _ _ _ _ _ _ _ c.step-again.ensures)
+loop-again-preserved c = (
+  c.loop-again.invariant.0,
+  c.step-again.ensures.working,
+  c.step-again.ensures.closing _ _ c.loop-again.invariant.2,
+  none_left _ _ _ _ _ _ _ _
+      c.step-again.ensures,
+)
 
 pub shape_of-taken : goal.shape_of-taken
 shape_of-taken c = c.loop-again.invariant.1.taken_row ∙ sym c.requires.1.taken_row

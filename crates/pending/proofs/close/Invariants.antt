@@ -8,7 +8,8 @@ use Rattle.pending.proofs.close.Given as goal
 
 abbrev pub invariant-loop-again : goal.invariant-loop-again
 invariant-loop-again v =
-    IndexOf v.table v.index × Working v.table v.taken v.ready v.counts v.shut × Closing v.table v.initial.taken v.initial.ready v.shut v.taken v.ready × (v.again ≡ false →
+    IndexOf v.table v.index × Working v.table v.taken v.ready v.counts v.shut × Closing v.table v.initial.taken v.initial.ready v.shut v.taken v.ready
+    × (v.again ≡ false →
     (l : ℕ) → member v.ready l ≡ false)
 
 abbrev pub decreases-loop-again : goal.decreases-loop-again

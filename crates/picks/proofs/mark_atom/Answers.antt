@@ -44,4 +44,5 @@ returns-then-can_be_marked c =
 
 pub returns : goal.returns
 returns c =
-    PickAllows.cannot_be_marked_now c.requires (false→not _ (sym c.has.ensures ∙ c.if-has.false)) (λ m. T_not c.can_be_marked.result (false→not _ c.if-can_be_marked.false) (c.can_be_marked.ensures.1 m))
+    PickAllows.cannot_be_marked_now c.requires (false→not _ (sym c.has.ensures ∙ c.if-has.false))
+    (λ m. T_not c.can_be_marked.result (false→not _ c.if-can_be_marked.false) (c.can_be_marked.ensures.1 m))

@@ -7,7 +7,8 @@ use Rattle.ranks.proofs.add.Goals as goal
 pub returns-then-many-eq1 : goal.returns-then-many-eq1
 returns-then-many-eq1 c =
     let args = c.args in record {
-      result_after = adding_line (found args.ranked.now args.lines.now args.rank) args.head args.many args.group c.if-many-eq1.true c.add_line-after.ensures.result_after;
+      result_after = adding_line (found args.ranked.now args.lines.now args.rank) args.head args.many args.group c.if-many-eq1.true
+          c.add_line-after.ensures.result_after;
       counted = c.add_line-after.ensures.counted;
     }
 

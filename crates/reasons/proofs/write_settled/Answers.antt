@@ -30,4 +30,5 @@ print_sheet-requires c =
 
 pub returns : goal.returns
 returns c =
-    printed_allowed c.args.n c.args.table.now c.args.text.now c.requires _ _ c.settle-m.ensures c.find_reasons-found.ensures.ranked_value c.find_reasons-found.ensures.lines_value c.print_sheet.ensures
+    printed_allowed c.args.n c.args.table.now c.args.text.now c.requires _ _ c.settle-m.ensures c.find_reasons-found.ensures.ranked_value
+    c.find_reasons-found.ensures.lines_value c.print_sheet.ensures

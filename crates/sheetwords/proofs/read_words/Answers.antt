@@ -33,4 +33,5 @@ fill_or_clear-requires c =
 pub returns : goal.returns
 returns c =
     read_on c.args.sheet.now _ _ _ _ _ _ _
-    c.clear_words.auto.words c.clear_names.auto.names c.if-sheet-gt-MOST_SHEET_BYTES.false c.if-words-lt-MOST_WORDS.false c.if-names-lt-MOST_ATOMS.false c.fill_or_clear.ensures
+    c.clear_words.auto.words c.clear_names.auto.names c.if-sheet-gt-MOST_SHEET_BYTES.false c.if-words-lt-MOST_WORDS.false c.if-names-lt-MOST_ATOMS.false
+    c.fill_or_clear.ensures

@@ -11,9 +11,11 @@ use Rattle.valued.proofs.groups_code.Given as goal
 
 abbrev pub invariant-loop-left : goal.invariant-loop-left
 invariant-loop-left l =
-    (l.at ≤ length l.table) × (l.first ≤ l.at) × (WholeGroups l.left (drop l.at l.table)) × (drop_groups l.left (drop l.at l.table) ≡ drop_groups l.m (drop l.first l.table))
+    (l.at ≤ length l.table) × (l.first ≤ l.at) × (WholeGroups l.left (drop l.at l.table))
+    × (drop_groups l.left (drop l.at l.table) ≡ drop_groups l.m (drop l.first l.table))
     × GroupsBelow l.n (take_groups l.left (drop l.at l.table))
-    × (max l.high (code (any_value (given l.n l.values) (take_groups l.left (drop l.at l.table)))) ≡ code (any_value (given l.n l.values) (take_groups l.m (drop l.first l.table))))
+    × (max l.high (code (any_value (given l.n l.values) (take_groups l.left (drop l.at l.table))))
+    ≡ code (any_value (given l.n l.values) (take_groups l.m (drop l.first l.table))))
 
 abbrev pub decreases-loop-left : goal.decreases-loop-left
 decreases-loop-left l =

@@ -8,7 +8,8 @@ use Rattle.values.proofs.write_values.Given as goal
 
 abbrev pub invariant-loop-a : goal.invariant-loop-a
 invariant-loop-a l =
-    (l.a ≤ l.n) × (length l.values ≡ length l.initial.values) × (l.values ≡ written (settled_value (member l.marks) (member l.held)) l.a l.initial.values)
+    (l.a ≤ l.n) × (length l.values ≡ length l.initial.values)
+    × (l.values ≡ written (settled_value (member l.marks) (member l.held)) l.a l.initial.values)
 
 abbrev pub decreases-loop-a : goal.decreases-loop-a
 decreases-loop-a l =

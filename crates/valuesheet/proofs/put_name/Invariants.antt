@@ -8,7 +8,8 @@ use Rattle.valuesheet.proofs.put_name.Given as goal
 
 abbrev pub invariant-loop-i : goal.invariant-loop-i
 invariant-loop-i l =
-    (l.i ≤ l.len) × (length l.text ≡ length l.initial.text) × (name_left l.sheet l.start l.len l.text l.at l.i ≡ sets l.initial.text l.at (bytes_at l.sheet l.start l.len))
+    (l.i ≤ l.len) × (length l.text ≡ length l.initial.text)
+    × (name_left l.sheet l.start l.len l.text l.at l.i ≡ sets l.initial.text l.at (bytes_at l.sheet l.start l.len))
 
 abbrev pub decreases-loop-i : goal.decreases-loop-i
 decreases-loop-i l =

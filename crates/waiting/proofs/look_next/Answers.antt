@@ -15,7 +15,8 @@ overflow_add-result c =
 pub returns-in-At : goal.returns-in-At
 returns-in-At c =
     let found = sym c.in-At.is ∙ c.lowest_from.ensures in
-    let after = taken_out c.requires.0 (next_below c.requires.0 c.requires.1 found) c.look-after.ensures.result_after c.look-after.ensures.awake c.remove.ensures in record {
+    let after = taken_out c.requires.0 (next_below c.requires.0 c.requires.1 found) c.look-after.ensures.result_after c.look-after.ensures.awake
+    c.remove.ensures in record {
       i_lt_next = omega (arith, next_further c.requires.0 c.requires.1 found);
       rank_after = next_looked_at c.requires.0 c.requires.1 found c.look-after.ensures.result_after;
       awake = after;

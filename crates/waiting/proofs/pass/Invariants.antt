@@ -6,7 +6,8 @@ use Rattle.waiting.proofs.pass.Given as goal
 
 abbrev pub invariant-loop-i : goal.invariant-loop-i
 invariant-loop-i l =
-    PassedTo l.marked l.clean (member l.marks) l.table l.index l.order (found l.initial.ranked l.initial.lines l.rank) l.i (found l.ranked l.lines l.reached) l.counts l.waiting
+    PassedTo l.marked l.clean (member l.marks) l.table l.index l.order (found l.initial.ranked l.initial.lines l.rank) l.i
+    (found l.ranked l.lines l.reached) l.counts l.waiting
 
 abbrev pub decreases-loop-i : goal.decreases-loop-i
 decreases-loop-i l =

@@ -12,8 +12,11 @@ all_below-waiting-requires c =
     omega (arith, c.requires.1, at_most_1024_rules _ c.requires.0.index.table)
 
 pub loop-again-init : goal.loop-again-init
-loop-again-init c =
-    (passes_start _ _ _ _ c.requires.0.fit, all_awake c.requires.0 (subst (λ (n : ℕ). AllBelow n c.all_below-waiting.result) c.requires.1 c.all_below-waiting.ensures))
+loop-again-init c = (
+  passes_start _ _ _ _ c.requires.0.fit,
+  all_awake c.requires.0
+      (subst (λ (n : ℕ). AllBelow n c.all_below-waiting.result) c.requires.1 c.all_below-waiting.ensures),
+)
 
 pub pass-reached-requires : goal.pass-reached-requires
 pass-reached-requires c =
