@@ -37,7 +37,7 @@ fn pick_fault(record: MarkRecord, table: &[u16], atom: u64) -> Checked
 }
 
 // What a pick answers, and the record after it.
-#[derive(Drop)]
+#[derive(Clone, Copy)]
 pub struct Picked {
     pub answer: PickAnswer,
     pub record: MarkRecord,
