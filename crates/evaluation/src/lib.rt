@@ -125,6 +125,7 @@ pub fn settle(table: &[u16], index: &[u16], facts: [u64; 16], n: usize) -> Marki
     Marking { marks, held }
 }
 
+#[tactic(auto, unfolding(crate::specs::Evaluation::evaluation_fault))]
 pub fn evaluation_fault(n: u64, table: &[u16], room: u64) -> Checked
     ensures { result ≡ evaluation_fault n table.now room }
 {

@@ -31,6 +31,7 @@ pub struct Counts {
 }
 
 // The fault of a literal, from what there would be with it.
+#[tactic(auto, unfolding(crate::specs::Literals::fault_with))]
 fn fault_with(
     names: usize,
     repeated: bool,

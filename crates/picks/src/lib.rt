@@ -26,6 +26,7 @@ fn atom_fault(n: u64, atom: u64) -> Checked
     }
 }
 
+#[tactic(auto, unfolding(crate::specs::Faults::pick_fault))]
 fn pick_fault(record: MarkRecord, table: &[u16], atom: u64) -> Checked
     ensures { result ≡ pick_fault «record» table.now atom }
 {
