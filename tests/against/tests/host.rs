@@ -262,61 +262,14 @@ mod conflict {
 
 mod sheet {
     use against::cases::{Tally, cases};
+    use against::compare::{Buffers, host_sheet as compare, second_read as second};
     use against::entries::unpacked;
-    use against::guard::{BEFORE, Guarded};
+    use against::guard::BEFORE;
     use against::host;
-    use against::sheets::{self, MANY_LINES, NOT_BY_TWO, ONLY_IN_BODIES, ROOM_FOR_HEADS};
-    use against::shrink::without_parts;
+    use against::sheets::{MANY_LINES, NOT_BY_TWO, ONLY_IN_BODIES, ROOM_FOR_HEADS};
     use second::host::simmerknot_sheet as second_sheet;
     use second::random::{self, Chance, SHEET_DAMAGES};
     use second::tables::EXAMPLES;
-
-    /// The three buffers as they are lent, and as they are left.
-    #[derive(Clone, PartialEq, Eq)]
-    struct Buffers {
-        words: Vec<u8>,
-        names: Vec<u8>,
-        text: Vec<u8>,
-    }
-
-    fn engine(sheet: &[u8], lent: &Buffers, before: usize) -> (u64, Buffers) {
-        let sheet = Guarded::new(sheet, before);
-        let unaltered = sheet.clone();
-        let mut words = Guarded::new(&lent.words, before);
-        let mut names = Guarded::new(&lent.names, before);
-        let mut text = Guarded::new(&lent.text, before);
-        let answer = host::sheet(sheet.row(), words.row_mut(), names.row_mut(), text.row_mut());
-        words.check();
-        names.check();
-        text.check();
-        assert!(sheet == unaltered, "the sheet was altered");
-        (answer, Buffers { words: words.row().to_vec(), names: names.row().to_vec(), text: text.row().to_vec() })
-    }
-
-    fn second(sheet: &[u8], lent: &Buffers) -> (u64, Buffers) {
-        let mut left = lent.clone();
-        (second_sheet(sheet, &mut left.words, &mut left.names, &mut left.text), left)
-    }
-
-    /// Both sides answer the same and leave the same bytes; if not, the smallest sheet found is shown.
-    fn compare(sheet: &[u8], lent: &Buffers, before: usize, tally: &mut Tally) {
-        let expected = second(sheet, lent);
-        sheets::note(tally, sheet, lent.text.len(), &unpacked(expected.0));
-        if engine(sheet, lent, before) != expected {
-            let sheet = without_parts(sheet, |sheet| engine(sheet, lent, before) != second(sheet, lent));
-            let ((ours, left), (theirs, right)) = (engine(&sheet, lent, before), second(&sheet, lent));
-            let first = |a: &[u8], b: &[u8]| (0..a.len()).find(|&at| a[at] != b[at]);
-            panic!(
-                "sheet \"{}\":\nengine {:?}, second {:?}\nfirst byte that differs: words {:?}, names {:?}, text {:?}",
-                sheet.escape_ascii(),
-                unpacked(ours),
-                unpacked(theirs),
-                first(&left.words, &right.words),
-                first(&left.names, &right.names),
-                first(&left.text, &right.text),
-            );
-        }
-    }
 
     /// Buffers of awkward lengths, large enough most of the time; the text room fits or just does not.
     fn buffers(chance: &mut Chance, sheet: &[u8]) -> Buffers {
@@ -324,7 +277,7 @@ mod sheet {
     }
 
     fn full(text: usize) -> Buffers {
-        Buffers { words: vec![7; 16_384], names: vec![7; 2048], text: vec![7; text] }
+        Buffers::least(text)
     }
 
     const OUTCOMES: [&str; 10] = [

@@ -1,44 +1,11 @@
 //! The sheet entry over words and name entries: the answer, every entry and every byte afterwards.
 
 use against::cases::{Tally, cases};
+use against::compare::sheet as compare;
 use against::sheets::{self, MANY_LINES, NOT_BY_TWO, ONLY_IN_BODIES, ROOM_FOR_HEADS};
-use against::shrink::without_parts;
 use second::random::{self, Chance, SHEET_DAMAGES};
-use second::refusal::Refusal;
-use second::sheet::{Accepted, read_sheet};
+use second::sheet::read_sheet;
 use second::table::parse;
-
-type Left = (Result<Accepted, Refusal>, Vec<u16>, Vec<u32>, Vec<u8>);
-
-fn both(sheet: &[u8], words: &[u16], names: &[u32], text: &[u8]) -> [Left; 2] {
-    let entries: [fn(&[u8], &mut [u16], &mut [u32], &mut [u8]) -> Result<Accepted, Refusal>; 2] = [sheets::read_sheet, read_sheet];
-    entries.map(|entry| {
-        let (mut words, mut names, mut text) = (words.to_vec(), names.to_vec(), text.to_vec());
-        (entry(sheet, &mut words, &mut names, &mut text), words, names, text)
-    })
-}
-
-/// Both sides answer the same and leave the same; if not, the smallest sheet found is shown.
-fn compare(sheet: &[u8], words: &[u16], names: &[u32], text: &[u8], tally: &mut Tally) {
-    let [engine, second] = both(sheet, words, names, text);
-    sheets::note(tally, sheet, text.len(), &second.0);
-    if engine != second {
-        let sheet = without_parts(sheet, |sheet| {
-            let [engine, second] = both(sheet, words, names, text);
-            engine != second
-        });
-        let [engine, second] = both(&sheet, words, names, text);
-        let same = [engine.1 == second.1, engine.2 == second.2, engine.3 == second.3];
-        let (ours, theirs) = (engine.0, second.0);
-        panic!(
-            "sheet \"{}\", buffers of {}, {} and {}: engine {ours:?}, second {theirs:?}; words, names, text the same: {same:?}",
-            sheet.escape_ascii(),
-            words.len(),
-            names.len(),
-            text.len(),
-        );
-    }
-}
 
 #[test]
 fn sheets_grown_from_the_grammar_and_damaged() {

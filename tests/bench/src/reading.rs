@@ -10,16 +10,10 @@ use std::array::from_fn;
 use std::collections::HashMap;
 use std::hint::black_box;
 
-use second::reader::{Reader, Reading, Role};
-use second::refusal::*;
+use against::lookup::{Lookup, read};
+use second::refusal::{MOST_SHEET_BYTES, MOST_WORDS};
 
 use crate::turns::{medians, timed};
-
-/// Which earlier name is equal to one.
-trait Lookup<'a>: Default {
-    fn number(&mut self, sheet: &'a [u8], entries: &[u32], name: &'a [u8]) -> Option<usize>;
-    fn note(&mut self, name: &'a [u8], number: usize);
-}
 
 /// The entries, from the first on.
 #[derive(Default)]
@@ -49,72 +43,10 @@ impl<'a> Lookup<'a> for Hash<'a> {
     }
 }
 
-/// The words and name entries of a sheet within all limits but that of 10; N and the words filled.
-fn read<'a, L: Lookup<'a>>(sheet: &'a [u8], words: &mut [u16], names: &mut [u32]) -> Result<(usize, usize), Refusal> {
-    let mut lookup = L::default();
-    let mut heads = [false; 1024];
-    let (mut n, mut filled, mut line, mut rule, mut group) = (0, 0, 0, 0, 0);
-    let mut reader = Reader::new(sheet);
-    loop {
-        let literal = match reader.next_reading() {
-            Reading::End => return Ok((n, filled)),
-            Reading::Refused(refusal) => return Err(refusal),
-            Reading::Literal(literal) => literal,
-        };
-        let (start, length, place) = (literal.name_place as usize, literal.name_length as usize, literal.place() as usize);
-        let name = &sheet[start..start + length];
-        let number = match lookup.number(sheet, &names[..n], name) {
-            Some(number) => number,
-            None if n == 512 => return refuse(NAME_513, start),
-            None => {
-                names[n] = (32 * start + length) as u32;
-                lookup.note(name, n);
-                n += 1;
-                n - 1
-            }
-        };
-        let code = 2 * number + literal.negated as usize;
-        if literal.role == Role::Head && heads[code] {
-            return refuse(SECOND_RULE_FOR_HEAD, place);
-        }
-        let (count, more) = match literal.role {
-            Role::Head => (0, 3),
-            Role::First => (words[rule + 2], 2),
-            Role::Further => (words[group], 1),
-        };
-        if count == 64 {
-            return refuse(GROUP_OR_LITERAL_65, place);
-        }
-        if filled + more > MOST_WORDS {
-            return refuse(WORDS_PASS_8192, place);
-        }
-        match literal.role {
-            Role::Head => {
-                heads[code] = true;
-                line += 1;
-                rule = filled;
-                words[rule] = code as u16;
-                words[rule + 1] = line;
-            }
-            Role::First => {
-                words[rule + 2] += 1;
-                group = filled;
-                words[group] = 1;
-                words[group + 1] = code as u16;
-            }
-            Role::Further => {
-                words[group] += 1;
-                words[filled] = code as u16;
-            }
-        }
-        filled += more;
-    }
-}
-
 /// The host's sheet entry but for evaluation and the value sheet: 0, or the refusal packed.
-fn yardstick<'a, L: Lookup<'a>>(sheet: &'a [u8], words: &mut [u8], names: &mut [u8]) -> u64 {
+fn yardstick<'a, L: Lookup<'a> + Default>(sheet: &'a [u8], words: &mut [u8], names: &mut [u8]) -> u64 {
     let (mut word_entries, mut name_entries) = (vec![0; words.len() / 2], vec![0; names.len() / 4]);
-    let read = read::<L>(sheet, &mut word_entries, &mut name_entries);
+    let read = read(L::default(), sheet, &mut word_entries, &mut name_entries);
     if read.is_err() {
         word_entries.fill(0);
         name_entries.fill(0);
