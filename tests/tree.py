@@ -165,10 +165,10 @@ def functions(file):
 
 
 def contract_lines(file):
-    """A Rattle file's text in two: its contracts' lines, and all the others."""
+    """A Rattle file's text in two: the lines of its contracts and ghost items, and all the others."""
     contracts, others, depth = [], [], None
     for line in file.read_text().split("\n")[:-1]:
-        clause = re.match(r" +(requires|ensures|decreases)\*?(?: \w+)? \{", line)
+        clause = re.match(r" +(?:(?:requires|ensures|decreases)\*?(?: \w+)?|(?:pub )?ghost (?:invariant )?\w+(?: =|:)) \{", line)
         if depth is None and clause:
             depth = 0
         if depth is None:

@@ -17,9 +17,9 @@ use Rattle.sets.specs.Sets.{count, ◌with◌, ◌without◌}
 use Rattle.sets.proofs.Counting.{count_≡, count_add}
 use Rattle.bits.specs.Sets.{bit, member, changed, put_in}
 use Rattle.bits.specs.Rows.{row_without, Words, lowest_from}
-use Rattle.bits.specs.declared.Found.TheVariants.{At}
 use Rattle.bits.proofs.Least.{lowest_from_at}
 use Rattle.bits.proofs.Bit.{bit_past, bit_of_shifted, LowestBit, lowest_bit, ones_count, differs, differs_false, bit_of_zero, bit_or_lem, bit_xor_lem, bit_pow_same, bit_pow_other, same_bits}
+use Rattle.std.specs.Prelude.{Some}
 
 -- the word and the bit of an index tell the index
 same_index : (i j : ℕ) → i / 64 ≡ j / 64 → i % 64 ≡ j % 64 → i ≡ j
@@ -224,7 +224,8 @@ none_in_zero s i w e below j from h =
 
 -- the lowest one of the first word that has any
 lowest_in_word : (s : List ℕ) (n i w : ℕ) → i ≤ 64 * w → 64 * (w + 1) ≤ i + n → get_or s w 0 < 2 ^ 64 → get_or s w 0 ≢ 0
-    → ((j : ℕ) → i ≤ j → j < 64 * w → member s j ≡ false) → At (64 * w + count_trailing_zeros 64 (get_or s w 0)) ≡ lowest_from n i (member s)
+    → ((j : ℕ) → i ≤ j → j < 64 * w → member s j ≡ false)
+    → Some (64 * w + count_trailing_zeros 64 (get_or s w 0)) ≡ lowest_from n i (member s)
 lowest_in_word s n i w from room h ne below =
     let x = get_or s w 0 in
     let low = lowest_bit 64 x h ne in
@@ -267,7 +268,7 @@ module _ (s : List ℕ) (i : ℕ) {x : ℕ} (shifted : x ≡ get_or s (i / 64) 0
               ∙ bit_past 64 (get_or s (i / 64) 0) (i % 64 + count_trailing_zeros 64 x) word (omega arith)))
         ]
 
-    pub lowest_shifted : (n : ℕ) → 64 * (i / 64 + 1) ≤ i + n → At (i + count_trailing_zeros 64 x) ≡ lowest_from n i (member s)
+    pub lowest_shifted : (n : ℕ) → 64 * (i / 64 + 1) ≤ i + n → Some (i + count_trailing_zeros 64 x) ≡ lowest_from n i (member s)
     lowest_shifted n room =
         let t = count_trailing_zeros 64 x in
         sym (lowest_from_at n i (i + t) (member s) (omega arith) (omega (arith, inside_word)) (member_shifted t inside_word ∙ low.one)
@@ -283,7 +284,7 @@ count_turn s w h e inv = ap₂ (λ (m y : ℕ). m + ones y) inv e ∙ sym (count
 
 pub lowest_turn : (s : List ℕ) (n i w : ℕ) {x : ℕ} → i ≤ 64 * w → 64 * (w + 1) ≤ i + n → get_or s w 0 < 2 ^ 64 → x ≡ get_or s w 0
     → x ≢ 0
-    → ((j : ℕ) → i ≤ j → j < 64 * w → member s j ≡ false) → At (64 * w + count_trailing_zeros 64 x) ≡ lowest_from n i (member s)
+    → ((j : ℕ) → i ≤ j → j < 64 * w → member s j ≡ false) → Some (64 * w + count_trailing_zeros 64 x) ≡ lowest_from n i (member s)
 lowest_turn s n i w from room h e ne below =
-    ap (λ (y : ℕ). At (64 * w + count_trailing_zeros 64 y)) e
+    ap (λ (y : ℕ). Some (64 * w + count_trailing_zeros 64 y)) e
     ∙ lowest_in_word s n i w from room h (λ z. ne (e ∙ z)) below

@@ -7,13 +7,6 @@ ghost use Rattle.sets.specs.Sets.{count};
 ghost use Rattle.bits.specs.Sets.{changed, member, put_in};
 ghost use Rattle.bits.specs.Rows.{row_without, lowest_from, lowest_below};
 
-// A member that was looked for.
-#[derive(Clone, Copy)]
-pub enum Found {
-    At(usize),
-    Nothing,
-}
-
 // Is `i` in the set?
 pub fn has(set: &[u64], i: usize) -> bool
     ensures { result ≡ member set.now i }
@@ -59,7 +52,7 @@ fn flip(set: &mut [u64], i: usize)
 fn word(set: &[u64], w: usize) -> u64
     ensures { result ≡ get_or set.now w 0 }
 {
-    if w < set.len() { set[w] } else { 0 }
+    set.get(w).copied().unwrap_or(0)
 }
 
 // How many numbers below 512 are in the set.
@@ -67,46 +60,42 @@ pub fn count(set: &[u64]) -> usize
     ensures { result ≡ count most_atoms (member set.now) }
 {
     let mut n: usize = 0;
-    let mut w: usize = 0;
-    while w < 8 {
-        n += u64::count_ones(word(set, w)) as usize;
-        w += 1;
+    for w in 0..8 {
+        n += word(set, w).count_ones() as usize;
     }
     n
 }
 
 // The lowest number below 1,024 that is in the set, from word `first` on.
-fn lowest_in_words(set: &[u64], first: usize) -> Found
+fn lowest_in_words(set: &[u64], first: usize) -> Option<usize>
     requires { first ≤ 16 }
     ensures { result ≡ lowest_from (most_codes - 64 * first) (64 * first) (member set.now) }
 {
-    let mut w = first;
-    while w < 16 {
+    for w in first..16 {
         let x = word(set, w);
         if x != 0 {
-            return Found::At(64 * w + u64::trailing_zeros(x) as usize);
+            return Some(64 * w + x.trailing_zeros() as usize);
         }
-        w += 1;
     }
-    Found::Nothing
+    None
 }
 
 // The lowest number below 1,024 that is in the set.
-pub fn lowest(set: &[u64]) -> Found
+pub fn lowest(set: &[u64]) -> Option<usize>
     ensures { result ≡ lowest_below most_codes (member set.now) }
 {
     lowest_in_words(set, 0)
 }
 
 // The lowest number from `i` on below 1,024 that is in the set.
-pub fn lowest_from(set: &[u64], i: usize) -> Found
+pub fn lowest_from(set: &[u64], i: usize) -> Option<usize>
     requires { i < most_codes }
     ensures { result ≡ lowest_from (most_codes - i) i (member set.now) }
 {
     let w = i / 64;
     let x = word(set, w) >> (i % 64);
     if x != 0 {
-        return Found::At(i + u64::trailing_zeros(x) as usize);
+        return Some(i + x.trailing_zeros() as usize);
     }
     lowest_in_words(set, w + 1)
 }

@@ -3,24 +3,11 @@
 ghost use Rattle.std.specs.Prelude.{◌≡◌, [], length};
 ghost use Rattle.buffers.specs.Padded.{padded};
 
-// Every word of the buffer zero.
-pub fn clear_words(words: &mut [u16])
-    ensures { words.new ≡ padded (length words.old) [] }
+// Every word and every name entry of the buffers zero.
+pub fn clear(words: &mut [u16], names: &mut [u32])
+    ensures words_cleared { words.new ≡ padded (length words.old) [] }
+    ensures names_cleared { names.new ≡ padded (length names.old) [] }
 {
-    let mut i: usize = 0;
-    while i < words.len() {
-        words[i] = 0;
-        i += 1;
-    }
-}
-
-// Every entry of the buffer zero.
-pub fn clear_names(names: &mut [u32])
-    ensures { names.new ≡ padded (length names.old) [] }
-{
-    let mut i: usize = 0;
-    while i < names.len() {
-        names[i] = 0;
-        i += 1;
-    }
+    words.fill(0);
+    names.fill(0);
 }

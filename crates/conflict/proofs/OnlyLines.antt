@@ -4,7 +4,7 @@ use mathlib.Core.Logic.{◌↔◌}
 use mathlib.Core.Path.{◌≡◌, sym}
 use Prim.Native.Nat.{ℕ}
 use Rattle.paper.specs.Marking.{Conflict}
-use Rattle.refusal.specs.declared.Decided.{Decided}
+use Rattle.refusal.specs.Checks.{Decided}
 use Rattle.refusal.proofs.Questions.{question_determined, question_same, asked_of}
 use Rattle.words.specs.Layout.{rules_of}
 use Rattle.words.proofs.OnlyLines.{Alike}

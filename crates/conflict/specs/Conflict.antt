@@ -1,6 +1,6 @@
 -- Believed: the question of conflict: 1, 2, words; then yes exactly if some atom has both literals held before any mark.
 use Rattle.std.specs.Prelude.{List, ℕ}
-use Rattle.refusal.specs.declared.Decided.{Decided}
+use Rattle.refusal.specs.Checks.{Decided}
 use Rattle.refusal.specs.Questions.{QuestionAllows}
 use Rattle.words.specs.Check.{table_check}
 use Rattle.words.specs.Layout.{rules_of}

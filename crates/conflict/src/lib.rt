@@ -10,17 +10,14 @@ ghost use Rattle.index.specs.Placed.{Table};
 ghost use Rattle.conflict.specs.Both.{both_in, InConflict};
 ghost use Rattle.conflict.specs.Conflict.{ConflictAllows};
 
-use refusal::{Checked, Decided};
+use index::{Index, IndexedTable};
+use refusal::Refusal;
 
 fn both_in(set: &[u64], a: usize) -> bool
     requires { a < most_atoms }
     ensures { result ≡ both_in (member set.now) a }
 {
-    if bits::has(set, 2 * a) {
-        bits::has(set, 2 * a + 1)
-    } else {
-        false
-    }
+    bits::has(set, 2 * a) && bits::has(set, 2 * a + 1)
 }
 
 // Has one of the `n` atoms both its literals in the set?
@@ -28,14 +25,7 @@ fn some_both_in(set: &[u64], n: usize) -> bool
     requires { n ≤ most_atoms }
     ensures { result ≡ some_below (both_in (member set.now)) n }
 {
-    let mut a = n;
-    while 0 < a {
-        a -= 1;
-        if both_in(set, a) {
-            return true;
-        }
-    }
-    false
+    (0..n).any(|a| both_in(set, a))
 }
 
 // One Held, without a mark, and a look at each atom.
@@ -44,22 +34,19 @@ fn held_both(table: &[u16], n: usize) -> bool
     ensures { InConflict (rules_of table.now) result }
 {
     let marks = [0u64; 8];
-    let mut index = [0u16; index::CELLS];
-    let mut facts = [0u64; 16];
-    index::build(table, &mut index, &mut facts);
-    let held = pending::held(table, &index, facts, &marks);
+    let mut room = Index::empty();
+    let rules = IndexedTable::build(table, &mut room);
+    let held = pending::held(&rules, &marks);
     some_both_in(&held, n)
 }
 
 // Is some atom inconsistent?
-pub fn in_conflict(n: u64, table: &[u16]) -> Decided
+pub fn in_conflict(n: u64, table: &[u16]) -> Result<bool, Refusal>
     ensures { ConflictAllows n table.now result }
 {
-    if let Checked::Refused(r) = words::check(n, table) {
-        return Decided::Refused(r);
-    }
+    words::check(n, table)?;
     if held_both(table, n as usize) {
-        return Decided::Yes;
+        return Ok(true);
     }
-    Decided::No
+    Ok(false)
 }

@@ -25,6 +25,7 @@ pub fn decimal_length(n: usize) -> usize
 {
     let mut left = n;
     let mut digits: usize = 1;
+    // As many turns as a number has digits, which only the turns tell.
     while 10 <= left {
         left = left / 10;
         digits += 1;
@@ -41,6 +42,7 @@ pub fn put_decimal(text: &mut [u8], at: usize, n: usize) -> usize
     let whole = at + decimal_length(n);
     let mut left = n;
     let mut end = whole;
+    // The last digit first, as a number gives its digits.
     while 10 <= left {
         end -= 1;
         text[end] = digit_byte(left % 10);

@@ -9,10 +9,7 @@ use lib.Dec.{leb}
 use lib.ListN.{length, get_or}
 use borrow.Author.Tests.{leb-true}
 use Rattle.refusal.specs.declared.Refusal.{Refusal}
-use Rattle.refusal.specs.declared.Checked.{Checked}
-use Rattle.refusal.specs.declared.Checked.TheVariants.{Accepted}
-use Rattle.refusal.specs.declared.Decided.{Decided}
-use Rattle.refusal.specs.Checks.{or_else}
+use Rattle.refusal.specs.Checks.{Checked, Decided, or_else}
 use Rattle.refusal.proofs.Laws.{or_else_accepted, refused≢accepted}
 use Rattle.refusal.proofs.Questions.{question_determined, question_same, asked_of, question_opposite, opposite, opposite_twice, yes_exactly_if}
 use Rattle.words.specs.Check.{table_check, AcceptedTable}
@@ -41,6 +38,7 @@ use Rattle.host.specs.Evaluation.{host_fault, HostEvaluation}
 use Rattle.host.specs.Conflict.{host_table_fault, HostConflict}
 use Rattle.host.proofs.Determined.{host_accepted, zero_exactly_if_accepted}
 use Rattle.host.proofs.Conflict.{one_exactly_if_conflict}
+use Rattle.std.specs.Prelude.{Ok, Err}
 
 -- the values written tell whether there is a conflict
 pub codes_tell : (N : ℕ) (t room : List ℕ) → AcceptedTable N t → (I : Interpretation) → Smallest (rules_of t) I
@@ -56,24 +54,24 @@ codes_tell N t room accepted I smallest =
     )
 
 pub evaluation_codes_tell : (N : ℕ) (t room : List ℕ) {answer : Decided} {room' : List ℕ} → ConflictAllows N t answer
-    → EvaluationAllows N t room Checked.Accepted room' → (answer ≡ Decided.Yes) ↔ ((a : ℕ) × (a < N) × (get_or room' a 0 ≡ 2))
+    → EvaluationAllows N t room (Ok tt) room' → (answer ≡ Ok true) ↔ ((a : ℕ) × (a < N) × (get_or room' a 0 ≡ 2))
 evaluation_codes_tell N t room {room' = room'} o e =
-    let q = evaluated_is N t room room' Checked.Accepted e refl in
+    let q = evaluated_is N t room room' (Ok tt) e refl in
     let accepted = (evaluation_accepted N t (length room) q.0).1 in
     Iff.trans (yes_exactly_if accepted o) (rw q.1.2 (codes_tell N t room accepted q.1.0 q.1.1))
 
 -- the host's evaluation of bytes that it accepts
-module _ (N : ℕ) (bytes room : List ℕ) (accepted : host_fault N (words_in bytes) (lone_byte bytes) (length room) ≡ Accepted) where
+module _ (N : ℕ) (bytes room : List ℕ) (accepted : host_fault N (words_in bytes) (lone_byte bytes) (length room) ≡ Ok tt) where
   host_evaluated : {answer : ℕ} {room' : List ℕ} → HostEvaluation N bytes room answer room'
       → (I : Interpretation) × Smallest (rules_of (words_in bytes)) I × (room' ≡ written (λ a. value I (positive a)) N room)
   host_evaluated (HostEvaluation.refused {f} e) = absurd (refused≢accepted f (sym e ∙ accepted))
   host_evaluated (HostEvaluation.evaluated e I s) = (I, s, refl)
 
-  table_accepted : host_table_fault N (words_in bytes) (lone_byte bytes) ≡ Accepted
+  table_accepted : host_table_fault N (words_in bytes) (lone_byte bytes) ≡ Ok tt
   unfolding host_fault host_table_fault
   table_accepted =
       rw (host_accepted N (words_in bytes) (lone_byte bytes) (length room) accepted)
-      (or_else_accepted (evaluation_fault N (words_in bytes) (length room)) (then_lone_byte Accepted (length (words_in bytes)) (lone_byte bytes)) accepted).1
+      (or_else_accepted (evaluation_fault N (words_in bytes) (length room)) (then_lone_byte (Ok tt) (length (words_in bytes)) (lone_byte bytes)) accepted).1
 
 pub host_codes_tell : (N : ℕ) (bytes room : List ℕ) {answer : ℕ} {room' : List ℕ} → HostConflict N bytes answer
     → HostEvaluation N bytes room 0 room' → (answer ≡ 1) ↔ ((a : ℕ) × (a < N) × (get_or room' a 0 ≡ 2))
@@ -109,8 +107,8 @@ module _ (N : ℕ) (t : List ℕ) {x y : Decided} (o : ConflictAllows N t x) (o'
   conflict_is_opposite : x ≡ opposite y
   conflict_is_opposite = sym (ap opposite settled_is_opposite ∙ opposite_twice x)
 
-  pub answers_tell : ((x ≡ Decided.Yes) ↔ (y ≡ Decided.No)) × ((x ≡ Decided.No) ↔ (y ≡ Decided.Yes))
-      × ((f : Refusal) → (x ≡ Decided.Refused f) ↔ (y ≡ Decided.Refused f))
+  pub answers_tell : ((x ≡ Ok true) ↔ (y ≡ Ok false)) × ((x ≡ Ok false) ↔ (y ≡ Ok true))
+      × ((f : Refusal) → (x ≡ Err f) ↔ (y ≡ Err f))
   answers_tell = (
     ((λ p. settled_is_opposite ∙ ap opposite p), λ p. conflict_is_opposite ∙ ap opposite p),
     ((λ p. settled_is_opposite ∙ ap opposite p), λ p. conflict_is_opposite ∙ ap opposite p),

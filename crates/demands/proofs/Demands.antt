@@ -10,7 +10,7 @@ use lib.Dec.{T, leb}
 use lib.ListN.{length, get_or, take, drop}
 use Rattle.limits.specs.Limits.{most_atoms, most_line, most_reason_bytes}
 use Rattle.refusal.specs.declared.Refusal.{Refusal}
-use Rattle.refusal.specs.Numbers.{too_many_atoms, broken_record, not_settled, text_room_too_small, not_a_truth_code}
+use Rattle.refusal.specs.Numbers.{too_many_atoms, broken_record, not_settled, text_room_too_small, not_a_truth_code, number_of}
 use Rattle.paper.specs.Table1.{Value, 𝐢, 𝐭, code, ◌and◌, ◌or◌, not', ◌implies◌}
 use Rattle.paper.specs.Rules.{Rule, positive}
 use Rattle.sets.specs.Sets.{◌∈◌, ◌⊆◌, count}
@@ -19,26 +19,20 @@ use Rattle.paper.specs.Marking.{Marks, Marking, Marked, Unmarked, Held, Clean, C
 use Rattle.paper.proofs.Theorems as paper
 use Rattle.paper.proofs.Theorems.{smallest_by_test, smallest_exists}
 use Rattle.paper.proofs.Settled.{clean→𝐭}
-use Rattle.refusal.specs.declared.Numbered.{Numbered}
-use Rattle.refusal.specs.declared.Numbered.TheVariants.{Number, Refused as NoCode}
+use Rattle.refusal.specs.Checks.{Checked, Decided}
 use Rattle.truth.specs.Connectives.{conjunction, disjunction, negated, implied}
 use Rattle.truth.proofs.Laws as truth
 use Rattle.truth.proofs.Laws.{one_answer, and_is_table_1, or_is_table_1, not_is_table_1, implication_is_table_1, first_refused, second_refused}
-use Rattle.refusal.specs.declared.Checked.{Checked}
-use Rattle.refusal.specs.declared.Checked.TheVariants.{Accepted, Refused}
 use Rattle.words.specs.Check.{table_check, AcceptedTable}
 use Rattle.words.specs.Layout.{TableRecord, records_of, rules_in, rules_of, words_of}
 use Rattle.words.specs.OnlyLines.{OnlyLinesDiffer}
 use Rattle.words.proofs.Laws.{check_determined, accepted_one_rule, accepted_within, words_of_records_of}
 use Rattle.words.proofs.OnlyLines.{Alike, only_lines_alike}
-use Rattle.least.specs.declared.WhichGroup.{WhichGroup}
 use Rattle.least.specs.Groups.{WhichAllows, OnlyGroup}
 use Rattle.least.proofs.Groups.{which_determined, which→supports, which→carries_𝐢, only→supports, only→carries}
 use Rattle.records.specs.Records.{record_fault, marks_of, no_marks_for, with_mark, FreshAllows, CountAllows}
 use Rattle.picks.specs.Faults.{pick_fault, settled_fault, report_fault}
 use Rattle.records.specs.declared.MarkRecord.{MarkRecord}
-use Rattle.picks.specs.declared.PickAnswer.{PickAnswer}
-use Rattle.refusal.specs.declared.Decided.{Decided}
 use Rattle.refusal.specs.Questions.{QuestionAllows}
 use Rattle.picks.specs.Entries.{PickAllows, SettledAllows, ReportAllows}
 use Rattle.values.specs.Values.{written}
@@ -90,8 +84,7 @@ use Rattle.buffers.specs.Padded.{padded}
 use Rattle.valuesheet.specs.ValueSheet.{letter_of, line_for}
 use Rattle.valuesheet.specs.Lines.{lines}
 use Rattle.sheets.specs.declared.SheetCounts.{SheetCounts}
-use Rattle.sheets.specs.declared.SheetAnswer.{SheetAnswer}
-use Rattle.sheets.specs.SheetEntry.{sheet_of, counts, SheetAllows}
+use Rattle.sheets.specs.SheetEntry.{sheet_of, counts, SheetAllows, SheetAnswer}
 use Rattle.sheets.proofs.Laws.{sheet_one_rule, sheet_determined, Leaves, accepted_leaves, lines_left, leaves_a_table}
 use Rattle.sheets.proofs.Lines.{as_many_lines, line_of_atom, literal_has_line, lines_differ, as_many_lines_left, line_left, literal_has_line_left, names_left_apart, literal_has_name_left, name_left_is_written, head_has_record_left}
 use Rattle.host.specs.Bytes.{words_in, lone_byte}
@@ -103,45 +96,47 @@ use Rattle.host.proofs.OnlyLines.{host_alike, host_conflict_alike}
 use Rattle.hostsheet.specs.SheetBytes.{HostSheet, words_over, names_over}
 use Rattle.hostsheet.proofs.Bounds.{answer_tells}
 use Rattle.hostsheet.proofs.Determined.{host_sheet_determined}
+use Rattle.std.specs.Prelude.{Ok, Err, Some, Option, Result}
+use Rattle.picks.specs.declared.PickAnswer.{PickAnswer}
 
 -- ---- Demand 1. Every entry's promise allows one outcome for all inputs: where the written order finds a fault, that refusal and buffers as they were.
 -- (That each entry takes all inputs and ends is what the prover checks of it: none has a requires.)
 
 -- and, or, not, implication: Table 1 over codes; a number above 3 is 20 at place 0
-pub and_determined : (v w : ℕ) {r r' : Numbered} → r ≡ conjunction v w → r' ≡ conjunction v w → r ≡ r'
+pub and_determined : (v w : ℕ) {r r' : Result ℕ Refusal} → r ≡ conjunction v w → r' ≡ conjunction v w → r ≡ r'
 and_determined v w e e' = one_answer e e'
 
-pub or_determined : (v w : ℕ) {r r' : Numbered} → r ≡ disjunction v w → r' ≡ disjunction v w → r ≡ r'
+pub or_determined : (v w : ℕ) {r r' : Result ℕ Refusal} → r ≡ disjunction v w → r' ≡ disjunction v w → r ≡ r'
 or_determined v w e e' = one_answer e e'
 
-pub not_determined : (v : ℕ) {r r' : Numbered} → r ≡ negated v → r' ≡ negated v → r ≡ r'
+pub not_determined : (v : ℕ) {r r' : Result ℕ Refusal} → r ≡ negated v → r' ≡ negated v → r ≡ r'
 not_determined v e e' = one_answer e e'
 
-pub implication_determined : (v w : ℕ) {r r' : Numbered} → r ≡ implied v w → r' ≡ implied v w → r ≡ r'
+pub implication_determined : (v w : ℕ) {r r' : Result ℕ Refusal} → r ≡ implied v w → r' ≡ implied v w → r ≡ r'
 implication_determined v w e e' = one_answer e e'
 
-pub and_value : (a b : Value) {r : Numbered} → r ≡ conjunction (code a) (code b) → r ≡ Number (code (a and b))
+pub and_value : (a b : Value) {r : Result ℕ Refusal} → r ≡ conjunction (code a) (code b) → r ≡ Ok (code (a and b))
 and_value a b e = e ∙ and_is_table_1 a b
 
-pub or_value : (a b : Value) {r : Numbered} → r ≡ disjunction (code a) (code b) → r ≡ Number (code (a or b))
+pub or_value : (a b : Value) {r : Result ℕ Refusal} → r ≡ disjunction (code a) (code b) → r ≡ Ok (code (a or b))
 or_value a b e = e ∙ or_is_table_1 a b
 
-pub not_value : (a : Value) {r : Numbered} → r ≡ negated (code a) → r ≡ Number (code (not' a))
+pub not_value : (a : Value) {r : Result ℕ Refusal} → r ≡ negated (code a) → r ≡ Ok (code (not' a))
 not_value a e = e ∙ not_is_table_1 a
 
-pub implication_value : (a b : Value) {r : Numbered} → r ≡ implied (code a) (code b) → r ≡ Number (code (a implies b))
+pub implication_value : (a b : Value) {r : Result ℕ Refusal} → r ≡ implied (code a) (code b) → r ≡ Ok (code (a implies b))
 implication_value a b e = e ∙ implication_is_table_1 a b
 
-pub and_refused : (v w : ℕ) {r : Numbered} → (3 < v) ⊎ (3 < w) → r ≡ conjunction v w → r ≡ NoCode (not_a_truth_code 0)
+pub and_refused : (v w : ℕ) {r : Result ℕ Refusal} → (3 < v) ⊎ (3 < w) → r ≡ conjunction v w → r ≡ Err (not_a_truth_code 0)
 and_refused v w h e = e ∙ sym (⊎_elim (first_refused ◌and◌ v w) (second_refused ◌and◌ v w) h)
 
-pub or_refused : (v w : ℕ) {r : Numbered} → (3 < v) ⊎ (3 < w) → r ≡ disjunction v w → r ≡ NoCode (not_a_truth_code 0)
+pub or_refused : (v w : ℕ) {r : Result ℕ Refusal} → (3 < v) ⊎ (3 < w) → r ≡ disjunction v w → r ≡ Err (not_a_truth_code 0)
 or_refused v w h e = e ∙ sym (⊎_elim (first_refused ◌or◌ v w) (second_refused ◌or◌ v w) h)
 
-pub not_refused : (v : ℕ) {r : Numbered} → 3 < v → r ≡ negated v → r ≡ NoCode (not_a_truth_code 0)
+pub not_refused : (v : ℕ) {r : Result ℕ Refusal} → 3 < v → r ≡ negated v → r ≡ Err (not_a_truth_code 0)
 not_refused v h e = e ∙ sym (truth.not_refused v h)
 
-pub implication_refused : (v w : ℕ) {r : Numbered} → (3 < v) ⊎ (3 < w) → r ≡ implied v w → r ≡ NoCode (not_a_truth_code 0)
+pub implication_refused : (v w : ℕ) {r : Result ℕ Refusal} → (3 < v) ⊎ (3 < w) → r ≡ implied v w → r ≡ Err (not_a_truth_code 0)
 implication_refused v w h e = e ∙ sym (⊎_elim (first_refused ◌implies◌ v w) (second_refused ◌implies◌ v w) h)
 
 -- the word table check
@@ -150,50 +145,51 @@ check_allows_one = check_determined
 
 -- fresh record: 1; a refused one has N 0, no marks and count 0
 pub fresh_refused : (N : ℕ) {answer : Checked} {r : MarkRecord} → leb N 512 ≡ false
-    → FreshAllows N answer r → (answer ≡ Checked.Refused too_many_atoms) × (r ≡ no_marks_for 0)
+    → FreshAllows N answer r → (answer ≡ Err too_many_atoms) × (r ≡ no_marks_for 0)
 fresh_refused N e o = records.fresh_determined N o (FreshAllows.refused e)
 
 pub fresh_accepted : (N : ℕ) {answer : Checked} {r : MarkRecord} → leb N 512 ≡ true
-    → FreshAllows N answer r → (answer ≡ Checked.Accepted) × (r ≡ no_marks_for N)
+    → FreshAllows N answer r → (answer ≡ Ok tt) × (r ≡ no_marks_for N)
 fresh_accepted N e o = records.fresh_determined N o (FreshAllows.fresh e)
 
 module _ (r : MarkRecord) (t : List ℕ) where
   -- pick: 1, 17, 2, words, 16; a refusal alters nothing
-  pub pick_determined : (a : ℕ) {x y : PickAnswer} {r' r'' : MarkRecord}
+  pub pick_determined : (a : ℕ) {x y : Result PickAnswer Refusal} {r' r'' : MarkRecord}
       → PickAllows r t a x r' → PickAllows r t a y r'' → (x ≡ y) × (r' ≡ r'')
   pick_determined a o o' = picks.pick_determined r t a o o'
 
-  pub pick_refused : (a : ℕ) {f : Refusal} {answer : PickAnswer} {r' : MarkRecord} → pick_fault r t a ≡ Refused f → PickAllows r t a answer r'
-      → (answer ≡ PickAnswer.Refused f) × (r' ≡ r)
+  pub pick_refused : (a : ℕ) {f : Refusal} {answer : Result PickAnswer Refusal} {r' : MarkRecord}
+      → pick_fault r t a ≡ Err f → PickAllows r t a answer r'
+      → (answer ≡ Err f) × (r' ≡ r)
   pick_refused a e o = picks.pick_determined r t a o (PickAllows.refused e)
 
-  pub pick_marks : (a : ℕ) {answer : PickAnswer} {r' : MarkRecord} → pick_fault r t a ≡ Accepted
+  pub pick_marks : (a : ℕ) {answer : Result PickAnswer Refusal} {r' : MarkRecord} → pick_fault r t a ≡ Ok tt
       → CanBeMarked (rules_of t) (marks_of r) a → PickAllows r t a answer r'
-      → (answer ≡ PickAnswer.Marked) × (r' ≡ with_mark r a)
+      → (answer ≡ (Ok PickAnswer.Marked)) × (r' ≡ with_mark r a)
   pick_marks a e c o = picks.pick_determined r t a o (PickAllows.marked e c)
 
-  pub pick_finds_it_marked : (a : ℕ) {answer : PickAnswer} {r' : MarkRecord}
-      → pick_fault r t a ≡ Accepted → Marked (marks_of r) a → PickAllows r t a answer r'
-      → (answer ≡ PickAnswer.AlreadyMarked) × (r' ≡ r)
+  pub pick_finds_it_marked : (a : ℕ) {answer : Result PickAnswer Refusal} {r' : MarkRecord}
+      → pick_fault r t a ≡ Ok tt → Marked (marks_of r) a → PickAllows r t a answer r'
+      → (answer ≡ (Ok PickAnswer.AlreadyMarked)) × (r' ≡ r)
   pick_finds_it_marked a e m o = picks.pick_determined r t a o (PickAllows.already_marked e m)
 
-  pub pick_leaves_it : (a : ℕ) {answer : PickAnswer} {r' : MarkRecord} → pick_fault r t a ≡ Accepted → Unmarked (marks_of r) a
-      → (CanBeMarked (rules_of t) (marks_of r) a → ⊥) → PickAllows r t a answer r' → (answer ≡ PickAnswer.CannotBeMarkedNow) × (r' ≡ r)
+  pub pick_leaves_it : (a : ℕ) {answer : Result PickAnswer Refusal} {r' : MarkRecord} → pick_fault r t a ≡ Ok tt → Unmarked (marks_of r) a
+      → (CanBeMarked (rules_of t) (marks_of r) a → ⊥) → PickAllows r t a answer r' → (answer ≡ (Ok PickAnswer.CannotBeMarkedNow)) × (r' ≡ r)
   pick_leaves_it a e u n o = picks.pick_determined r t a o (PickAllows.cannot_be_marked_now e u n)
 
   -- settled question: 1, 17, 2, words; it alters nothing
   pub settled_determined : {x y : Decided} → SettledAllows r t x → SettledAllows r t y → x ≡ y
   settled_determined o o' = picks.settled_determined r t o o'
 
-  pub settled_refused : {f : Refusal} {answer : Decided} → settled_fault r t ≡ Refused f → SettledAllows r t answer → answer ≡ Decided.Refused f
+  pub settled_refused : {f : Refusal} {answer : Decided} → settled_fault r t ≡ Err f → SettledAllows r t answer → answer ≡ Err f
   settled_refused e o = picks.settled_determined r t o (QuestionAllows.refused e)
 
-  pub settled_yes : {answer : Decided} → settled_fault r t ≡ Accepted
-      → Settled (rules_of t) (marks_of r) → SettledAllows r t answer → answer ≡ Decided.Yes
+  pub settled_yes : {answer : Decided} → settled_fault r t ≡ Ok tt
+      → Settled (rules_of t) (marks_of r) → SettledAllows r t answer → answer ≡ Ok true
   settled_yes e s o = picks.settled_determined r t o (QuestionAllows.answers_yes e s)
 
-  pub settled_no : {answer : Decided} → settled_fault r t ≡ Accepted
-      → (Settled (rules_of t) (marks_of r) → ⊥) → SettledAllows r t answer → answer ≡ Decided.No
+  pub settled_no : {answer : Decided} → settled_fault r t ≡ Ok tt
+      → (Settled (rules_of t) (marks_of r) → ⊥) → SettledAllows r t answer → answer ≡ Ok false
   settled_no e n o = picks.settled_determined r t o (QuestionAllows.answers_no e n)
 
   -- report: 1, 17, 2, 3, words, 18; a refusal alters nothing
@@ -201,47 +197,47 @@ module _ (r : MarkRecord) (t : List ℕ) where
       → ReportAllows r t room x room' → ReportAllows r t room y room'' → (x ≡ y) × (room' ≡ room'')
   report_determined room o o' = picks.report_determined r t room o o'
 
-  pub report_refused : (room : List ℕ) {f : Refusal} {answer : Checked} {room' : List ℕ} → report_fault r t (length room) ≡ Refused f
-      → ReportAllows r t room answer room' → (answer ≡ Checked.Refused f) × (room' ≡ room)
+  pub report_refused : (room : List ℕ) {f : Refusal} {answer : Checked} {room' : List ℕ} → report_fault r t (length room) ≡ Err f
+      → ReportAllows r t room answer room' → (answer ≡ Err f) × (room' ≡ room)
   report_refused room e o = picks.report_determined r t room o (ReportAllows.refused e)
 
-  pub report_before_settled : (room : List ℕ) {answer : Checked} {room' : List ℕ} → report_fault r t (length room) ≡ Accepted
-      → (Settled (rules_of t) (marks_of r) → ⊥) → ReportAllows r t room answer room' → (answer ≡ Checked.Refused not_settled) ×
+  pub report_before_settled : (room : List ℕ) {answer : Checked} {room' : List ℕ} → report_fault r t (length room) ≡ Ok tt
+      → (Settled (rules_of t) (marks_of r) → ⊥) → ReportAllows r t room answer room' → (answer ≡ Err not_settled) ×
       (room' ≡ room)
   report_before_settled room e n o = picks.report_determined r t room o (ReportAllows.before_settled e n)
 
   pub report_of_any_marks : (room : List ℕ) {answer : Checked} {room' : List ℕ}
-      → report_fault r t (length room) ≡ Accepted → Settled (rules_of t) (marks_of r)
+      → report_fault r t (length room) ≡ Ok tt → Settled (rules_of t) (marks_of r)
       → (H : Interpretation) → IsHeld (rules_of t) (marks_of r) H → ReportAllows r t room answer room'
-      → (answer ≡ Checked.Accepted) × (room' ≡ written (settled_value (marks_of r) H) r.n room)
+      → (answer ≡ Ok tt) × (room' ≡ written (settled_value (marks_of r) H) r.n room)
   report_of_any_marks room e s H h o = picks.report_determined r t room o (ReportAllows.reported e s H h)
 
 -- mark count: 1, 17; the stored number, which is that of the marks; it alters nothing
-pub count_determined : (r : MarkRecord) {x y : Numbered} → CountAllows r x → CountAllows r y → x ≡ y
+pub count_determined : (r : MarkRecord) {x y : Result ℕ Refusal} → CountAllows r x → CountAllows r y → x ≡ y
 count_determined r o o' = records.count_determined r o o'
 
-pub count_refused : (r : MarkRecord) {f : Refusal} {answer : Numbered}
-    → record_fault r ≡ Refused f → CountAllows r answer → answer ≡ Numbered.Refused f
+pub count_refused : (r : MarkRecord) {f : Refusal} {answer : Result ℕ Refusal}
+    → record_fault r ≡ Err f → CountAllows r answer → answer ≡ Err f
 count_refused r e o = records.count_determined r o (CountAllows.refused e)
 
-pub count_counts : (r : MarkRecord) {answer : Numbered} → record_fault r ≡ Accepted
-    → CountAllows r answer → (answer ≡ Numbered.Number r.count) × (r.count ≡ count most_atoms (marks_of r))
+pub count_counts : (r : MarkRecord) {answer : Result ℕ Refusal} → record_fault r ≡ Ok tt
+    → CountAllows r answer → (answer ≡ Ok r.count) × (r.count ≡ count most_atoms (marks_of r))
 count_counts r e o = (records.count_determined r o (CountAllows.counted e), (records.record_good r e).counted)
 
 -- the question of conflict: 1, 2, words; nothing is lent to be written
 pub conflict_determined : (N : ℕ) (t : List ℕ) {x y : Decided} → ConflictAllows N t x → ConflictAllows N t y → x ≡ y
 conflict_determined N t o o' = question_determined o o'
 
-pub conflict_refused : (N : ℕ) (t : List ℕ) {f : Refusal} {answer : Decided} → table_check N t ≡ Refused f
-    → ConflictAllows N t answer → answer ≡ Decided.Refused f
+pub conflict_refused : (N : ℕ) (t : List ℕ) {f : Refusal} {answer : Decided} → table_check N t ≡ Err f
+    → ConflictAllows N t answer → answer ≡ Err f
 conflict_refused N t e o = question_determined o (QuestionAllows.refused e)
 
 pub conflict_yes : (N : ℕ) (t : List ℕ) {answer : Decided} → AcceptedTable N t
-    → Conflict (rules_of t) → ConflictAllows N t answer → answer ≡ Decided.Yes
+    → Conflict (rules_of t) → ConflictAllows N t answer → answer ≡ Ok true
 conflict_yes N t e c o = question_determined o (QuestionAllows.answers_yes e c)
 
 pub conflict_no : (N : ℕ) (t : List ℕ) {answer : Decided} → AcceptedTable N t
-    → (Conflict (rules_of t) → ⊥) → ConflictAllows N t answer → answer ≡ Decided.No
+    → (Conflict (rules_of t) → ⊥) → ConflictAllows N t answer → answer ≡ Ok false
 conflict_no N t e n o = question_determined o (QuestionAllows.answers_no e n)
 
 -- evaluation: 1, 2, 3, words; a refusal alters nothing
@@ -251,8 +247,8 @@ pub evaluation_allows_one : (N : ℕ) (t room : List ℕ) {x y : Checked} {room'
 evaluation_allows_one N t room o o' = evaluation_determined N t room o o'
 
 pub evaluation_refused : (N : ℕ) (t room : List ℕ) {f : Refusal} {answer : Checked} {room' : List ℕ} → evaluation_fault N t
-    (length room) ≡ Refused f
-    → EvaluationAllows N t room answer room' → (answer ≡ Checked.Refused f) × (room' ≡ room)
+    (length room) ≡ Err f
+    → EvaluationAllows N t room answer room' → (answer ≡ Err f) × (room' ≡ room)
 evaluation_refused N t room e o = evaluation_determined N t room o (EvaluationAllows.refused e)
 
 -- the host's evaluation: the same over bytes, then 4 for a lone last byte; 2^32 × number + place
@@ -262,19 +258,19 @@ pub host_evaluation_determined : (N : ℕ) (bytes room : List ℕ) {x y : ℕ} {
 host_evaluation_determined N bytes room o o' = host_determined N bytes room o o'
 
 pub host_evaluation_refused : (N : ℕ) (bytes room : List ℕ) {f : Refusal} {answer : ℕ} {room' : List ℕ}
-    → host_fault N (words_in bytes) (lone_byte bytes) (length room) ≡ Refused f
+    → host_fault N (words_in bytes) (lone_byte bytes) (length room) ≡ Err f
     → HostEvaluation N bytes room answer room' → (answer ≡ packed f) × (room' ≡ room)
 host_evaluation_refused N bytes room e o = host_determined N bytes room o (HostEvaluation.refused e)
 
 -- so an answer tells its cause: 0 if nothing refuses, else the fault that the order finds, with its number in the high half and its place in the low one
 pub host_evaluation_tells : (N : ℕ) (bytes room : List ℕ) {answer : ℕ} {room' : List ℕ} → HostEvaluation N bytes room answer room'
-    → ((host_fault N (words_in bytes) (lone_byte bytes) (length room) ≡ Accepted) × (answer ≡ 0))
-    ⊎ ((f : Refusal) × (host_fault N (words_in bytes) (lone_byte bytes) (length room) ≡ Refused f)
-    × (answer ≡ packed f) × (1 ≤ f.number) × (f.place < 4294967296))
+    → ((host_fault N (words_in bytes) (lone_byte bytes) (length room) ≡ Ok tt) × (answer ≡ 0))
+    ⊎ ((f : Refusal) × (host_fault N (words_in bytes) (lone_byte bytes) (length room) ≡ Err f)
+    × (answer ≡ packed f) × (1 ≤ number_of f.reason) × (f.place < 4294967296))
 host_evaluation_tells = host_answer_tells
 
 pub host_evaluation_zero : (N : ℕ) (bytes room : List ℕ) {answer : ℕ} {room' : List ℕ} → HostEvaluation N bytes room answer room'
-    → (answer ≡ 0) ↔ (host_fault N (words_in bytes) (lone_byte bytes) (length room) ≡ Accepted)
+    → (answer ≡ 0) ↔ (host_fault N (words_in bytes) (lone_byte bytes) (length room) ≡ Ok tt)
 host_evaluation_zero = zero_exactly_if_accepted
 
 -- the host's question of conflict: the same over bytes, then 4 for a lone last byte
@@ -282,15 +278,15 @@ pub host_conflict_determined : (N : ℕ) (bytes : List ℕ) {x y : ℕ} → Host
 host_conflict_determined = host.host_conflict_determined
 
 pub host_conflict_refused : (N : ℕ) (bytes : List ℕ) {f : Refusal} {answer : ℕ}
-    → host_table_fault N (words_in bytes) (lone_byte bytes) ≡ Refused f → HostConflict N bytes answer → answer ≡ packed f
+    → host_table_fault N (words_in bytes) (lone_byte bytes) ≡ Err f → HostConflict N bytes answer → answer ≡ packed f
 host_conflict_refused N bytes e o = host.host_conflict_determined N bytes o (HostConflict.answered (QuestionAllows.refused e))
 
 -- so an answer tells its cause: 0 that there is no conflict, 1 that there is one, else the fault that the order finds
 pub host_conflict_tells : (N : ℕ) (bytes : List ℕ) {answer : ℕ} → HostConflict N bytes answer
-    → ((host_table_fault N (words_in bytes) (lone_byte bytes) ≡ Accepted) × (Conflict (rules_of (words_in bytes)) → ⊥) × (answer ≡ 0))
-    ⊎ (((host_table_fault N (words_in bytes) (lone_byte bytes) ≡ Accepted) × Conflict (rules_of (words_in bytes)) × (answer ≡ 1))
-    ⊎ ((f : Refusal) × (host_table_fault N (words_in bytes) (lone_byte bytes) ≡ Refused f)
-    × (answer ≡ packed f) × (1 ≤ f.number) × (f.place < 4294967296)))
+    → ((host_table_fault N (words_in bytes) (lone_byte bytes) ≡ Ok tt) × (Conflict (rules_of (words_in bytes)) → ⊥) × (answer ≡ 0))
+    ⊎ (((host_table_fault N (words_in bytes) (lone_byte bytes) ≡ Ok tt) × Conflict (rules_of (words_in bytes)) × (answer ≡ 1))
+    ⊎ ((f : Refusal) × (host_table_fault N (words_in bytes) (lone_byte bytes) ≡ Err f)
+    × (answer ≡ packed f) × (1 ≤ number_of f.reason) × (f.place < 4294967296)))
 host_conflict_tells = host.conflict_answer_tells
 
 -- the sheet reader: only 8, 10 and 11, at every place; the same again after the end or a refusal; and it ends
@@ -314,7 +310,7 @@ module _ (s : List ℕ) (wordRoom nameRoom : ℕ) (text : List ℕ) where
 
   pub sheet_refused : {f : Refusal} {answer : SheetAnswer} {ws ns text' : List ℕ} → sheet_outcome s wordRoom nameRoom ≡ sheet.refused f
       → SheetAllows s wordRoom nameRoom text answer ws ns text'
-      → (answer ≡ SheetAnswer.Refused f) × (ws ≡ padded wordRoom []) × (ns ≡ padded nameRoom []) × (text' ≡ text)
+      → (answer ≡ Err f) × (ws ≡ padded wordRoom []) × (ns ≡ padded nameRoom []) × (text' ≡ text)
   sheet_refused e o = sheet_determined s wordRoom nameRoom text o (SheetAllows.refused e)
 
 -- the host's sheet entry: the same over bytes, surplus bytes as they were
@@ -340,7 +336,7 @@ pub host_sheet_tells : (s words names text : List ℕ) {answer : ℕ} {ws ns tex
     ⊎ ((x : Sofar) × (I : Interpretation) × (sheet_outcome s (length words / 2) (length names / 4) ≡ sheet.accepted x)
     × SmallestWellSupported (rules_in x.records) I
     × (length text < length (sheet_of s x I)) × (f ≡ text_room_too_small (length (sheet_of s x I)))))
-    × (answer ≡ packed f) × (1 ≤ f.number) × (f.place < 4294967296))
+    × (answer ≡ packed f) × (1 ≤ number_of f.reason) × (f.place < 4294967296))
 host_sheet_tells = answer_tells
 
 -- ---- Demand 2. For an accepted table every atom's value is its value in the smallest well-supported model, by Definitions 5, 6, 8, 9 as printed.
@@ -354,16 +350,16 @@ model_exists N t accepted =
 
 -- evaluation writes the codes of the values, and no byte past them
 pub evaluation_values : (N : ℕ) (t room : List ℕ) {answer : Checked} {room' : List ℕ}
-    → evaluation_fault N t (length room) ≡ Accepted → EvaluationAllows N t room answer room'
+    → evaluation_fault N t (length room) ≡ Ok tt → EvaluationAllows N t room answer room'
     → (I : Interpretation) → SmallestWellSupported (rules_of t) I
-    → (answer ≡ Checked.Accepted) × (room' ≡ written (λ a. value I (positive a)) N room)
+    → (answer ≡ Ok tt) × (room' ≡ written (λ a. value I (positive a)) N room)
 evaluation_values N t room e o I i =
     let one = accepted_one_rule N t (evaluated.evaluation_accepted N t (length room) e).1 in
     evaluation_determined N t room o (EvaluationAllows.evaluated e I ((smallest_by_test (rules_of t) one I).1 i))
 
 -- and so does the host's
 pub host_evaluation_values : (N : ℕ) (bytes room : List ℕ) {answer : ℕ} {room' : List ℕ}
-    → host_fault N (words_in bytes) (lone_byte bytes) (length room) ≡ Accepted
+    → host_fault N (words_in bytes) (lone_byte bytes) (length room) ≡ Ok tt
     → HostEvaluation N bytes room answer room' → (I : Interpretation) → SmallestWellSupported (rules_of (words_in bytes)) I
     → (answer ≡ 0) × (room' ≡ written (λ a. value I (positive a)) N room)
 host_evaluation_values N bytes room e o I i =
@@ -372,7 +368,7 @@ host_evaluation_values N bytes room e o I i =
 
 module _ (s : List ℕ) (wordRoom nameRoom : ℕ) (text : List ℕ) (x : Sofar) (read : sheet_outcome s wordRoom nameRoom ≡ sheet.accepted x) where
   -- the words that an accepted sheet leaves are an accepted table for the N that it answers, with the sheet's records
-  pub sheet_leaves_a_table : {c : SheetCounts} {ws ns text' : List ℕ} → SheetAllows s wordRoom nameRoom text (SheetAnswer.Accepted c) ws ns text'
+  pub sheet_leaves_a_table : {c : SheetCounts} {ws ns text' : List ℕ} → SheetAllows s wordRoom nameRoom text (Ok c) ws ns text'
       → AcceptedTable c.atoms (take c.words ws) × (records_of (take c.words ws) ≡ x.records)
   sheet_leaves_a_table {c} o = leaves_a_table s wordRoom nameRoom c _ _ _ (accepted_leaves s wordRoom nameRoom text o c refl) x read
 
@@ -389,7 +385,7 @@ module _ (s : List ℕ) (wordRoom nameRoom : ℕ) (text : List ℕ) (x : Sofar) 
     -- .. or 15, where it does not fit
     pub sheet_does_not_fit : {answer : SheetAnswer} {ws ns text' : List ℕ}
         → length text < length (sheet_of s x I) → SheetAllows s wordRoom nameRoom text answer ws ns text'
-        → (answer ≡ SheetAnswer.Refused (text_room_too_small (length (sheet_of s x I))))
+        → (answer ≡ Err (text_room_too_small (length (sheet_of s x I))))
         × (ws ≡ padded wordRoom []) × (ns ≡ padded nameRoom []) × (text' ≡ text)
     sheet_does_not_fit h o =
         sheet_determined s wordRoom nameRoom text o
@@ -418,7 +414,7 @@ module _ (s words names text : List ℕ) (x : Sofar) (read : sheet_outcome s (le
 
 -- every name has its line. By the counts that the sheet entry answers and the buffers that it leaves:
 module _ (s : List ℕ) (wordRoom nameRoom : ℕ) (text : List ℕ) {c : SheetCounts} {ws ns text' : List ℕ}
-    (o : SheetAllows s wordRoom nameRoom text (SheetAnswer.Accepted c) ws ns text') where
+    (o : SheetAllows s wordRoom nameRoom text (Ok c) ws ns text') where
   left : Leaves s wordRoom nameRoom c ws ns text'
   left = accepted_leaves s wordRoom nameRoom text o c refl
 
@@ -504,41 +500,41 @@ pub picks_end_the_same : (N : ℕ) (t : List ℕ) → AcceptedTable N t
 picks_end_the_same = rooms.same_record
 
 -- a pick touches no other atom's mark, and not N, whatever record and table it is lent
-pub pick_touches_no_other : {r r' : MarkRecord} {t : List ℕ} {a : ℕ} {answer : PickAnswer} → PickAllows r t a answer r'
+pub pick_touches_no_other : {r r' : MarkRecord} {t : List ℕ} {a : ℕ} {answer : Result PickAnswer Refusal} → PickAllows r t a answer r'
     → (r'.n ≡ r.n) × ((b : ℕ) → (b ≡ a → ⊥) → marks_of r' b ≡ marks_of r b)
 pick_touches_no_other o = rooms.only_its_own_atom o
 
 module _ (N : ℕ) (t : List ℕ) (accepted : AcceptedTable N t) {l : List ℕ} {r : MarkRecord} (picked : Picks t (no_marks_for N) l r) where
   -- each pick marks its own atom exactly when it may
-  pub pick_marks_when_it_may : (a : ℕ) {answer : PickAnswer} {r' : MarkRecord} → PickAllows r t a answer r'
-      → (answer ≡ PickAnswer.Marked) ↔ CanBeMarked (rules_of t) (marks_of r) a
+  pub pick_marks_when_it_may : (a : ℕ) {answer : Result PickAnswer Refusal} {r' : MarkRecord} → PickAllows r t a answer r'
+      → (answer ≡ (Ok PickAnswer.Marked)) ↔ CanBeMarked (rules_of t) (marks_of r) a
   pick_marks_when_it_may a o = rooms.marks_when_it_may N t accepted picked a o
 
   -- a pick of an atom below N, the settled question and the count are never refused, and the report with room only before settled
-  pub pick_is_not_refused : (a : ℕ) → a < N → {answer : PickAnswer} {r' : MarkRecord}
-      → PickAllows r t a answer r' → (f : Refusal) → answer ≡ PickAnswer.Refused f → ⊥
+  pub pick_is_not_refused : (a : ℕ) → a < N → {answer : Result PickAnswer Refusal} {r' : MarkRecord}
+      → PickAllows r t a answer r' → (f : Refusal) → answer ≡ Err f → ⊥
   pick_is_not_refused a lt o = rooms.pick_never_refused N t accepted picked a lt o
 
-  pub settled_is_not_refused : {answer : Decided} → SettledAllows r t answer → (f : Refusal) → answer ≡ Decided.Refused f → ⊥
+  pub settled_is_not_refused : {answer : Decided} → SettledAllows r t answer → (f : Refusal) → answer ≡ Err f → ⊥
   settled_is_not_refused o = rooms.settled_never_refused N t accepted picked o
 
   pub report_is_refused_before_settled : (room : List ℕ) → N ≤ length room
       → {answer : Checked} {room' : List ℕ} → ReportAllows r t room answer room'
-      → (f : Refusal) → answer ≡ Checked.Refused f → (f ≡ not_settled) × (Settled (rules_of t) (marks_of r) → ⊥)
+      → (f : Refusal) → answer ≡ Err f → (f ≡ not_settled) × (Settled (rules_of t) (marks_of r) → ⊥)
   report_is_refused_before_settled room fits o = rooms.report_refused_before_settled N t accepted picked room fits o
 
-  pub count_is_not_refused : {answer : Numbered} → CountAllows r answer → answer ≡ Numbered.Number (count most_atoms (marks_of r))
+  pub count_is_not_refused : {answer : Result ℕ Refusal} → CountAllows r answer → answer ≡ Ok (count most_atoms (marks_of r))
   count_is_not_refused o = rooms.count_never_refused N t accepted picked o
 
   module _ (settled : Settled (rules_of t) (marks_of r)) (I : Interpretation) (smallest : SmallestWellSupported (rules_of t) I) where
     -- when nothing can be marked the report is demand 2's values ..
     pub report_is_the_values : (room : List ℕ) → N ≤ length room → {answer : Checked} {room' : List ℕ} → ReportAllows r t room answer room'
-        → (answer ≡ Checked.Accepted) × (room' ≡ written (λ a. value I (positive a)) N room)
+        → (answer ≡ Ok tt) × (room' ≡ written (λ a. value I (positive a)) N room)
     report_is_the_values room fits o =
         rooms.report_after_picks N t accepted picked settled I ((smallest_by_test (rules_of t) (accepted_one_rule N t accepted) I).1 smallest) room fits o
 
     -- .. and the marks are as many as the inconsistent atoms
-    pub count_is_the_inconsistent : {answer : Numbered} → CountAllows r answer → answer ≡ Numbered.Number (count most_atoms (inconsistent I))
+    pub count_is_the_inconsistent : {answer : Result ℕ Refusal} → CountAllows r answer → answer ≡ Ok (count most_atoms (inconsistent I))
     count_is_the_inconsistent o =
         rooms.count_after_picks N t accepted picked settled I ((smallest_by_test (rules_of t) (accepted_one_rule N t accepted) I).1 smallest) o
 
@@ -550,8 +546,8 @@ module _ (N : ℕ) (t : List ℕ) (accepted : AcceptedTable N t) {l : List ℕ} 
 
   -- and whole evaluation is that report
   pub evaluation_is_the_report : (room : List ℕ) {answer : Checked} {x y : List ℕ}
-      → EvaluationAllows N t room Checked.Accepted x → Settled (rules_of t) (marks_of r)
-      → ReportAllows r t room answer y → (answer ≡ Checked.Accepted) × (x ≡ y)
+      → EvaluationAllows N t room (Ok tt) x → Settled (rules_of t) (marks_of r)
+      → ReportAllows r t room answer y → (answer ≡ Ok tt) × (x ≡ y)
   evaluation_is_the_report room {x = x} {y = y} o s w = evaluation_equals_report N t room x y o picked s w
 
 -- so N passes settle
@@ -562,7 +558,7 @@ n_passes_settle = rooms.n_passes_settle
 -- ---- Document 02, W2. Each record knows its line, and no answer depends on one.
 
 -- what the check accepts is the words of its records, and their lines are at most 32,768
-pub accepted_is_its_records : (N : ℕ) (t : List ℕ) → Accepted ≡ table_check N t
+pub accepted_is_its_records : (N : ℕ) (t : List ℕ) → Ok tt ≡ table_check N t
     → (words_of (records_of t) ≡ t) × ((r : TableRecord) → r ∈ records_of t → r.line ≤ most_line)
 accepted_is_its_records N t e = (words_of_records_of N t (sym e), (accepted_within N t (sym e)).each_line)
 
@@ -574,7 +570,7 @@ module _ (N : ℕ) (t u : List ℕ) (accepted : AcceptedTable N t) (accepted' : 
   pub check_without_lines : (M : ℕ) {x y : Checked} → x ≡ table_check M t → y ≡ table_check M u → x ≡ y
   check_without_lines M e e' = e ∙ alike.checks M ∙ sym e'
 
-  pub pick_without_lines : (r : MarkRecord) (a : ℕ) {x y : PickAnswer} {r' r'' : MarkRecord}
+  pub pick_without_lines : (r : MarkRecord) (a : ℕ) {x y : Result PickAnswer Refusal} {r' r'' : MarkRecord}
       → PickAllows r t a x r' → PickAllows r u a y r'' → (x ≡ y) × (r' ≡ r'')
   pick_without_lines r = pick_alike r t u alike
 
@@ -610,19 +606,19 @@ module _ (N : ℕ) (b c : List ℕ) (accepted : AcceptedTable N (words_in b)) (a
 module _ (N : ℕ) (t : List ℕ) {answer : Decided} (o : ConflictAllows N t answer) where
   -- yes exactly if the smallest well-supported model, for orders of any kind, has an inconsistent atom
   pub conflict_exactly_if_inconsistent : AcceptedTable N t → (I : Interpretation) → SmallestWellSupported (rules_of t) I
-      → (answer ≡ Decided.Yes) ↔ ((a : ℕ) × (value I (positive a) ≡ 𝐢))
+      → (answer ≡ Ok true) ↔ ((a : ℕ) × (value I (positive a) ≡ 𝐢))
   conflict_exactly_if_inconsistent accepted I smallest =
       Iff.trans (yes_exactly_if accepted o) (paper.conflict_exactly_if_inconsistent (rules_of t) (accepted_one_rule N t accepted) I smallest)
 
   -- yes exactly if evaluation of the same table writes code 2 for some atom
-  pub conflict_exactly_if_a_code_is_2 : (room : List ℕ) {room' : List ℕ} → EvaluationAllows N t room Checked.Accepted room'
-      → (answer ≡ Decided.Yes) ↔ ((a : ℕ) × (a < N) × (get_or room' a 0 ≡ 2))
+  pub conflict_exactly_if_a_code_is_2 : (room : List ℕ) {room' : List ℕ} → EvaluationAllows N t room (Ok tt) room'
+      → (answer ≡ Ok true) ↔ ((a : ℕ) × (a < N) × (get_or room' a 0 ≡ 2))
   conflict_exactly_if_a_code_is_2 room e = evaluation_codes_tell N t room o e
 
   -- yes exactly if a fresh record is not settled; no and refusals are the settled question's yes and refusals
   pub conflict_exactly_if_not_settled : {settled : Decided} → SettledAllows (no_marks_for N) t settled
-      → ((answer ≡ Decided.Yes) ↔ (settled ≡ Decided.No)) × ((answer ≡ Decided.No) ↔ (settled ≡ Decided.Yes))
-      × ((f : Refusal) → (answer ≡ Decided.Refused f) ↔ (settled ≡ Decided.Refused f))
+      → ((answer ≡ Ok true) ↔ (settled ≡ Ok false)) × ((answer ≡ Ok false) ↔ (settled ≡ Ok true))
+      × ((f : Refusal) → (answer ≡ Err f) ↔ (settled ≡ Err f))
   conflict_exactly_if_not_settled s = answers_tell N t o s
 
 -- and the host's: 1 exactly if its evaluation of the same bytes writes code 2 for some atom
@@ -632,15 +628,15 @@ host_conflict_exactly_if_a_code_is_2 = host_codes_tell
 
 -- ---- Document 02, W4. Which group did it: what Held and Clean ask of each body (least::which_group), and the reason that the answer names.
 
-module _ (S : ℕ → Bool) (ρ : Rule) {which : WhichGroup} (o : WhichAllows S ρ.groups which) where
+module _ (S : ℕ → Bool) (ρ : Rule) {which : Option ℕ} (o : WhichAllows S ρ.groups which) where
   -- one answer for each set and body
-  pub which_group_determined : {which' : WhichGroup} → WhichAllows S ρ.groups which' → which ≡ which'
+  pub which_group_determined : {which' : Option ℕ} → WhichAllows S ρ.groups which' → which ≡ which'
   which_group_determined = which_determined S o
 
   -- for any set of literals that stand before the head, by an order of any kind
   module _ (I : Interpretation) (before : ℕ → ℕ → Type 0) (earlier : (ι : ℕ) → T (S ι) → before ι ρ.head)
-      (g : ℕ) (is_number : which ≡ WhichGroup.Number g) where
-    answer : WhichAllows S ρ.groups (WhichGroup.Number g)
+      (g : ℕ) (is_number : which ≡ Some g) where
+    answer : WhichAllows S ρ.groups (Some g)
     answer = subst (WhichAllows S ρ.groups) is_number o
 
     -- all of them t: the fact or group of that number, and so the rule, is supported (Definition 8, conditions 6 and 7)
@@ -670,7 +666,7 @@ module _ (S : ℕ → Bool) (ρ : Rule) {which : WhichGroup} (o : WhichAllows S 
 -- ---- Document 02, W5. The reason sheet, and a checker that anybody can run.
 
 -- the writer: 1, 2, words, 15; the checker: 1, 2, 3, words, 20, 21, 34, 22, else accepted. Each has one outcome for what it is lent
-pub reasons_allows_one : (N : ℕ) (t room : List ℕ) {x y : Numbered} {room' room'' : List ℕ}
+pub reasons_allows_one : (N : ℕ) (t room : List ℕ) {x y : Result ℕ Refusal} {room' room'' : List ℕ}
     → ReasonsAllows N t room x room' → ReasonsAllows N t room y room'' → (x ≡ y) × (room' ≡ room'')
 reasons_allows_one N t room = reasons_determined N t room
 
@@ -689,55 +685,55 @@ host_check_allows_one N bytes values text = host_check_determined N bytes values
 
 -- so an answer tells its cause: 0 that the checker accepts, else the fault that the order finds
 pub host_check_tells : (N : ℕ) (bytes values text : List ℕ) {answer : ℕ} → HostCheck N bytes values text answer
-    → ((host_fault N (words_in bytes) (lone_byte bytes) (length values) ≡ Accepted) × CheckAllows N (words_in bytes) values text Checked.Accepted ×
+    → ((host_fault N (words_in bytes) (lone_byte bytes) (length values) ≡ Ok tt) × CheckAllows N (words_in bytes) values text (Ok tt) ×
     (answer ≡ 0))
-    ⊎ ((f : Refusal) × ReadsAs answer f × ((host_fault N (words_in bytes) (lone_byte bytes) (length values) ≡ Refused f)
-    ⊎ ((host_fault N (words_in bytes) (lone_byte bytes) (length values) ≡ Accepted) × CheckAllows N (words_in bytes) values text (Checked.Refused f))))
+    ⊎ ((f : Refusal) × ReadsAs answer f × ((host_fault N (words_in bytes) (lone_byte bytes) (length values) ≡ Err f)
+    ⊎ ((host_fault N (words_in bytes) (lone_byte bytes) (length values) ≡ Ok tt) × CheckAllows N (words_in bytes) values text (Err f))))
 host_check_tells N bytes values text = check_answer_tells N bytes values text
 
 -- a room of the length that the writer asks for by 15 serves it
-pub asked_length_serves : (N : ℕ) (t none room : List ℕ) {y : Numbered} {k : ℕ} {none' room' : List ℕ} → AcceptedTable N t
-    → ReasonsAllows N t none (NoCode (text_room_too_small k)) none' → k ≤ length room → ReasonsAllows N t room y room' → y ≡ Number k
+pub asked_length_serves : (N : ℕ) (t none room : List ℕ) {y : Result ℕ Refusal} {k : ℕ} {none' room' : List ℕ} → AcceptedTable N t
+    → ReasonsAllows N t none (Err (text_room_too_small k)) none' → k ≤ length room → ReasonsAllows N t room y room' → y ≡ Ok k
 asked_length_serves N t none room accepted o le o' = learnt_length_serves N t none room o refl le o' accepted
 
 -- (a) the writer's sheet with evaluation's values is always accepted
 pub own_sheet_is_accepted : (N : ℕ) (t room values-room : List ℕ) {k : ℕ} {room' values : List ℕ} {answer : Checked}
-    → ReasonsAllows N t room (Number k) room' → EvaluationAllows N t values-room Checked.Accepted values
-    → CheckAllows N t values (take k room') answer → answer ≡ Checked.Accepted
+    → ReasonsAllows N t room (Ok k) room' → EvaluationAllows N t values-room (Ok tt) values
+    → CheckAllows N t values (take k room') answer → answer ≡ Ok tt
 own_sheet_is_accepted N t room values-room {k} {room'} {values} o e c =
     reason-check-determined N t values (take k room') c (own_sheet_accepted N t room values-room o refl e)
 
 -- (b) for every N, accepted table and value codes: what they give is well-supported, with an order of any kind, exactly if some text is accepted
 module _ (N : ℕ) (t values : List ℕ) (accepted : AcceptedTable N t) (enough : N ≤ length values)
     (codes : (a : ℕ) → a < N → get_or values a 0 ≤ 3) where
-  fine : check_fault N t values ≡ Accepted
+  fine : check_fault N t values ≡ Ok tt
   fine = sound_check N t values accepted (record { enough = enough; at_most_3 = codes })
 
-  pub well_supported_has_a_sheet : WellSupported (rules_of t) (given N values) → (text : List ℕ) × CheckAllows N t values text Checked.Accepted
+  pub well_supported_has_a_sheet : WellSupported (rules_of t) (given N values) → (text : List ℕ) × CheckAllows N t values text (Ok tt)
   well_supported_has_a_sheet w = let q = well_supported→accepted N t values fine w in (q.0, q.2)
 
-  pub a_sheet_makes_well_supported : ((text : List ℕ) × CheckAllows N t values text Checked.Accepted) → WellSupported (rules_of t) (given N values)
+  pub a_sheet_makes_well_supported : ((text : List ℕ) × CheckAllows N t values text (Ok tt)) → WellSupported (rules_of t) (given N values)
   a_sheet_makes_well_supported q =
       let s = accepted→well_supported N t values q.0 q.1 in (SmallerRank s.0, s.2)
 
   -- (d) and then one of at most 18,432 bytes is
-  pub a_short_sheet_is_enough : (text : List ℕ) → CheckAllows N t values text Checked.Accepted
-      → (short : List ℕ) × (length short ≤ most_reason_bytes) × CheckAllows N t values short Checked.Accepted
+  pub a_short_sheet_is_enough : (text : List ℕ) → CheckAllows N t values text (Ok tt)
+      → (short : List ℕ) × (length short ≤ most_reason_bytes) × CheckAllows N t values short (Ok tt)
   a_short_sheet_is_enough text o =
       well_supported→accepted N t values fine (a_sheet_makes_well_supported (text, o))
 
 -- the writer's own sheet has no more
-pub own_sheet_is_short : (N : ℕ) (t room : List ℕ) {k : ℕ} {room' : List ℕ} → ReasonsAllows N t room (Number k) room' → k ≤ most_reason_bytes
+pub own_sheet_is_short : (N : ℕ) (t room : List ℕ) {k : ℕ} {room' : List ℕ} → ReasonsAllows N t room (Ok k) room' → k ≤ most_reason_bytes
 own_sheet_is_short N t room o = own_sheet_short N t room o refl
 
 -- (c) an accepted text's ranks are such an order
-pub accepted_ranks_are_an_order : (N : ℕ) (t values text : List ℕ) → CheckAllows N t values text Checked.Accepted
+pub accepted_ranks_are_an_order : (N : ℕ) (t values text : List ℕ) → CheckAllows N t values text (Ok tt)
     → (ls : List ReasonLine) × IsReasonText text ls × WellSupportedBy (rules_of t) (given N values) (SmallerRank ls)
 accepted_ranks_are_an_order = accepted→well_supported
 
 -- (f) lines of records never matter to either
 module _ (N : ℕ) (t u : List ℕ) (accepted : AcceptedTable N t) (accepted' : AcceptedTable N u) (only : OnlyLinesDiffer t u) where
-  pub reasons_without_lines : (M : ℕ) (room : List ℕ) {x y : Numbered} {room' room'' : List ℕ}
+  pub reasons_without_lines : (M : ℕ) (room : List ℕ) {x y : Result ℕ Refusal} {room' room'' : List ℕ}
       → ReasonsAllows M t room x room' → ReasonsAllows M u room y room'' → (x ≡ y) × (room' ≡ room'')
   reasons_without_lines M room = reasons_alike M t u room (only_lines_alike N t u accepted accepted' only)
 
@@ -762,34 +758,34 @@ fresh_counts_none N (FreshAllows.fresh e) = (refl, sym (records.none_counted N))
 fresh_counts_none N (FreshAllows.refused e) = (refl, sym (records.none_counted 0))
 
 -- whatever record and table a pick is lent, it counts one more exactly where it answers `marked`, and else leaves the record as it was ..
-pub count_follows_the_answer : {r r' : MarkRecord} {t : List ℕ} {a : ℕ} {answer : PickAnswer} → PickAllows r t a answer r'
-    → ((answer ≡ PickAnswer.Marked) × (r'.count ≡ r.count + 1)) ⊎ ((answer ≡ PickAnswer.Marked → ⊥) × (r' ≡ r))
+pub count_follows_the_answer : {r r' : MarkRecord} {t : List ℕ} {a : ℕ} {answer : Result PickAnswer Refusal} → PickAllows r t a answer r'
+    → ((answer ≡ (Ok PickAnswer.Marked)) × (r'.count ≡ r.count + 1)) ⊎ ((answer ≡ (Ok PickAnswer.Marked) → ⊥) × (r' ≡ r))
 count_follows_the_answer = counted.answer_tells_count
 
 -- .. so that a count that was the number of marks is so afterwards
-pub pick_keeps_the_count_true : {r r' : MarkRecord} {t : List ℕ} {a : ℕ} {answer : PickAnswer}
+pub pick_keeps_the_count_true : {r r' : MarkRecord} {t : List ℕ} {a : ℕ} {answer : Result PickAnswer Refusal}
     → length r.marks ≡ 8 → r.count ≡ count most_atoms (marks_of r) → PickAllows r t a answer r' → r'.count ≡ count most_atoms (marks_of r')
 pick_keeps_the_count_true eight is o = (counted.pick_counted (record { eight = eight; true_count = is }) o).true_count
 
 -- a record with another count is refused by 17 by every entry that is lent one, whatever else is wrong with what it is lent, and nothing is repaired
 module _ (r : MarkRecord) (le : r.n ≤ most_atoms) (wrong : r.count ≡ count most_atoms (marks_of r) → ⊥) where
-  pub wrong_count_is_17_of_pick : (t : List ℕ) (a : ℕ) {answer : PickAnswer} {r' : MarkRecord} → PickAllows r t a answer r'
-      → (answer ≡ PickAnswer.Refused broken_record) × (r' ≡ r)
+  pub wrong_count_is_17_of_pick : (t : List ℕ) (a : ℕ) {answer : Result PickAnswer Refusal} {r' : MarkRecord} → PickAllows r t a answer r'
+      → (answer ≡ Err broken_record) × (r' ≡ r)
   unfolding pick_fault
-  wrong_count_is_17_of_pick t a o = let e : pick_fault r t a ≡ Refused broken_record = rw (records.wrong_count r le wrong) in pick_refused r t a e o
+  wrong_count_is_17_of_pick t a o = let e : pick_fault r t a ≡ Err broken_record = rw (records.wrong_count r le wrong) in pick_refused r t a e o
 
-  pub wrong_count_is_17_of_settled : (t : List ℕ) {answer : Decided} → SettledAllows r t answer → answer ≡ Decided.Refused broken_record
+  pub wrong_count_is_17_of_settled : (t : List ℕ) {answer : Decided} → SettledAllows r t answer → answer ≡ Err broken_record
   unfolding settled_fault
-  wrong_count_is_17_of_settled t o = let e : settled_fault r t ≡ Refused broken_record = rw (records.wrong_count r le wrong) in settled_refused r t e o
+  wrong_count_is_17_of_settled t o = let e : settled_fault r t ≡ Err broken_record = rw (records.wrong_count r le wrong) in settled_refused r t e o
 
   pub wrong_count_is_17_of_report : (t room : List ℕ) {answer : Checked} {room' : List ℕ} → ReportAllows r t room answer room'
-      → (answer ≡ Checked.Refused broken_record) × (room' ≡ room)
+      → (answer ≡ Err broken_record) × (room' ≡ room)
   unfolding report_fault
   wrong_count_is_17_of_report t room o =
-      let e : report_fault r t (length room) ≡ Refused broken_record = rw (records.wrong_count r le wrong) in
+      let e : report_fault r t (length room) ≡ Err broken_record = rw (records.wrong_count r le wrong) in
       report_refused r t room e o
 
-  pub wrong_count_is_17_of_count : {answer : Numbered} → CountAllows r answer → answer ≡ NoCode broken_record
+  pub wrong_count_is_17_of_count : {answer : Result ℕ Refusal} → CountAllows r answer → answer ≡ Err broken_record
   wrong_count_is_17_of_count o = count_refused r (records.wrong_count r le wrong) o
 
 -- after any list of picks from a fresh record, whatever the table, the stored count is the number of marks ..
@@ -809,12 +805,12 @@ module _ (N : ℕ) (t : List ℕ) (accepted : AcceptedTable N t) {l : List ℕ} 
   picks_settle_at_full_count = rooms.settled_when_all_counted N t accepted picked
 
 -- a record that the entries take and whose count is N is settled for every accepted table for N, and the settled question says so
-pub full_count_is_settled : (r : MarkRecord) → record_fault r ≡ Accepted → r.count ≡ r.n → (t : List ℕ) → AcceptedTable r.n t
+pub full_count_is_settled : (r : MarkRecord) → record_fault r ≡ Ok tt → r.count ≡ r.n → (t : List ℕ) → AcceptedTable r.n t
     → Settled (rules_of t) (marks_of r)
 full_count_is_settled = counted.all_counted_settled
 
-pub settled_says_yes_at_full_count : (r : MarkRecord) (t : List ℕ) → settled_fault r t ≡ Accepted → r.count ≡ r.n
-    → {answer : Decided} → SettledAllows r t answer → answer ≡ Decided.Yes
+pub settled_says_yes_at_full_count : (r : MarkRecord) (t : List ℕ) → settled_fault r t ≡ Ok tt → r.count ≡ r.n
+    → {answer : Decided} → SettledAllows r t answer → answer ≡ Ok true
 settled_says_yes_at_full_count r t e full o =
     let p = asked.settled_accepted r t e in
     settled_yes r t e (full_count_is_settled r p.0 full t p.1) o
@@ -824,6 +820,6 @@ pub evaluation_always_settles : (N : ℕ) (t : List ℕ) → AcceptedTable N t �
 evaluation_always_settles = always_settles
 
 -- .. and evaluation refuses nothing but the fault that the order finds
-pub evaluation_refuses_faults_alone : (N : ℕ) (t room : List ℕ) {f : Refusal} {room' : List ℕ} → EvaluationAllows N t room (Checked.Refused f) room'
-    → evaluation_fault N t (length room) ≡ Refused f
-evaluation_refuses_faults_alone N t room {f} {room'} o = (refused_is N t room room' (Checked.Refused f) f o refl).0
+pub evaluation_refuses_faults_alone : (N : ℕ) (t room : List ℕ) {f : Refusal} {room' : List ℕ} → EvaluationAllows N t room (Err f) room'
+    → evaluation_fault N t (length room) ≡ Err f
+evaluation_refuses_faults_alone N t room {f} {room'} o = (refused_is N t room room' (Err f) f o refl).0

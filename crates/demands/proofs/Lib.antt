@@ -2,3 +2,4 @@
 mod Report
 mod Conflict
 pub mod Demands
+pub mod Turns

@@ -7,21 +7,20 @@ use lib.ListN.{length}
 use Rattle.paper.specs.Rules.{Rule}
 use Rattle.paper.specs.Definitions.{Smallest}
 use Rattle.refusal.specs.Numbers.{table_too_long}
-use Rattle.refusal.specs.declared.Checked.{Checked}
-use Rattle.refusal.specs.declared.Checked.TheVariants.{Accepted}
-use Rattle.refusal.specs.Checks.{asking, or_else}
+use Rattle.refusal.specs.Checks.{Checked, asking, or_else}
 use Rattle.words.specs.Check.{too_many_atoms_fault}
 use Rattle.words.proofs.OnlyLines.{Alike}
 use Rattle.values.specs.Values.{room_too_small}
 use Rattle.evaluation.specs.Evaluation.{evaluation_fault, EvaluationAllows, refused, evaluated}
 use Rattle.evaluation.proofs.Laws.{evaluation_determined}
+use Rattle.std.specs.Prelude.{Ok}
 
 module _ (N : ℕ) (t u : List ℕ) (alike : Alike t u) where
   pub same_evaluation : (room : ℕ) → evaluation_fault N u room ≡ evaluation_fault N t room
   unfolding evaluation_fault
   same_evaluation room =
       ap₂ (λ (n : ℕ) (c : Checked). or_else (too_many_atoms_fault N)
-      (or_else (asking (leb n 8192) table_too_long Accepted) (or_else (room_too_small N room) c)))
+      (or_else (asking (leb n 8192) table_too_long (Ok tt)) (or_else (room_too_small N room) c)))
       (sym alike.lengths) (sym (alike.checks N))
 
   -- what the promise allows for the one it allows for the other

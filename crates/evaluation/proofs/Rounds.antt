@@ -1,5 +1,5 @@
 -- A round marks as if one at a time; rounds come to a settled marking. Assumes nothing.
-use mathlib.Core.Bool.{Bool, true, false, not, cond, ◌&&◌, ◌||◌, true≢false, false≢true}
+use mathlib.Core.Bool.{Bool, true, false, not, ◌&&◌, ◌||◌, true≢false, false≢true, or_comm, or-false, or-true}
 use mathlib.Core.List.{List}
 use mathlib.Core.Logic.{inl, inr, ⊎_elim}
 use mathlib.Core.Path.{◌≡◌, refl, sym, ap, ap₂, ◌∙◌, subst, subst⁻¹}
@@ -11,9 +11,10 @@ use lib.Dec.{T, ltb, lt→ltb, ltb→lt}
 use lib.ListN.{length, replicate}
 use borrow.Author.Tests.{ne_eqb, lt-ltb, le-ltb}
 use Rattle.paper.specs.Rules.{Rule, HeadsBelow, atom}
-use Rattle.paper.specs.Marking.{CanBeMarked, Settled, Marking, one_more, IsHeld, from_base}
+use Rattle.paper.specs.Marking.{CanBeMarked, Settled, Marking, one_more, IsHeld, IsClean, from_base}
 use Rattle.sets.specs.Sets.{◌with◌, count}
 use Rattle.sets.specs.Some.{some_below}
+use Rattle.sets.proofs.Some.{some_more}
 use Rattle.paper.proofs.Leasts.{can_be_marked_mono, held_mono}
 use Rattle.sets.proofs.Besides.{with_⊇}
 use Rattle.sets.proofs.Counting.{count_with, count≤}
@@ -22,10 +23,11 @@ use Rattle.bits.specs.Sets.{member, put_in}
 use Rattle.bits.proofs.Laws.{member_put_in, member_put_in_same, member_put_in_other, length_put_in}
 use Rattle.words.specs.Layout.{rules_of}
 use Rattle.pending.specs.Pending.{PairsOf, with_pair, Working}
-use Rattle.pending.proofs.Marked.{working_more, Marking-below, marking_starts, marking_goes_on, or_false_and, or_true}
+use Rattle.pending.proofs.Marked.{working_more, Marking-below, marking_starts, marking_goes_on}
 use Rattle.marking.specs.Markable.{markable, reason_to_mark}
 use Rattle.marking.proofs.Markable.{markable_is, goes_on}
-use Rattle.evaluation.specs.Rounds.{marked_one, marked_below, paired_below, RoundOver, Begun, Settling, Round, Standing}
+use Rattle.evaluation.specs.declared.Unsettled.{Unsettled}
+use Rattle.evaluation.specs.Rounds.{marked_one, marked_below, paired_below, with_one, RoundOver, MarkedAll, Begun, Settling, Round, Standing}
 
 -- what looking at the atoms below a does to the marks s
 pub record Looked (s : List ℕ) (H C : ℕ → Bool) (a : ℕ) (any : Bool) (s' : List ℕ) : Type 0 where
@@ -86,7 +88,7 @@ module _ (s : List ℕ) (H C : ℕ → Bool) (len : length s ≡ 8) where
         }
 
   looked : (n : ℕ) → n ≤ 512 → Looked s H C n (before n) (so_far n)
-  unfolding some_below marked_below
+  unfolding marked_below
   looked zero h =
       record {
         ahead = λ b h. refl;
@@ -96,7 +98,9 @@ module _ (s : List ℕ) (H C : ℕ → Bool) (len : length s ≡ 8) where
         unchanged = λ e. refl;
         grew = λ e. absurd (false≢true e);
       }
-  looked (suc a) h = looked_at_one a (omega arith) (looked a (omega arith)) (one a) refl
+  looked (suc a) h =
+      subst⁻¹ (λ (b : Bool). Looked s H C (suc a) b (so_far (suc a))) (some_more one a)
+      (looked_at_one a (omega arith) (looked a (omega arith)) (one a) refl)
 
   -- by the marks at hand an atom can be marked exactly if it could by those before the round
   turn_same : (s₁ : List ℕ) (a : ℕ) (any marked : Bool) → a < 512 → RoundOver s H C a any s₁ → marked ≡ markable (member s₁) H C a
@@ -116,29 +120,25 @@ module _ (s : List ℕ) (H C : ℕ → Bool) (len : length s ≡ 8) where
   -- a turn looks at one atom more
   pub turn : (s₁ s₂ : List ℕ) (a : ℕ) (any marked any' : Bool) → a < 512 → RoundOver s H C a any s₁ → marked ≡ markable (member s₁) H C a
       → s₂ ≡ marked_one s₁ a marked → any' ≡ (marked || any) → RoundOver s H C (a + 1) any' s₂
-  unfolding some_below marked_below
+  unfolding marked_below
   turn s₁ s₂ a any marked any' lt o e es ea =
       let same = turn_same s₁ a any marked lt o e in
       rw (add-one a)
       (record {
         marks_are = es ∙ ap₂ (λ (x : List ℕ) (b : Bool). marked_one x a b) o.marks_are same;
-        any_is = ea ∙ ap₂ (λ (b c : Bool). b || c) same o.any_is;
+        any_is = ea ∙ ap₂ (λ (b c : Bool). b || c) same o.any_is ∙ sym (some_more one a);
       })
 
   pub over_looked : (n : ℕ) (any : Bool) (s' : List ℕ) → n ≤ 512 → RoundOver s H C n any s' → Looked s H C n any s'
   over_looked n any s' h o = rw (o.marks_are, o.any_is) (looked n h)
 
 pub round_begins : (s : List ℕ) (H C : ℕ → Bool) → RoundOver s H C 0 false s
-unfolding some_below marked_below
+unfolding marked_below
 round_begins s H C = record { marks_are = refl; any_is = refl }
 
-pub round_ends : (s s' : List ℕ) (H C : ℕ → Bool) (a n : ℕ) (any : Bool)
-    → a ≤ n → n ≤ a → RoundOver s H C a any s' → RoundOver s H C n any s'
-round_ends s s' H C a n any h k o = subst (λ (x : ℕ). RoundOver s H C x any s') (omega arith) o
-
--- what is left to mark, and the round that finds it out
-abbrev pub left : List ℕ → Bool → ℕ
-left s again = 512 - count 512 (member s) + cond again 1 0
+-- what is left to mark
+abbrev pub left : List ℕ → ℕ
+left s = 512 - count 512 (member s)
 
 -- a whole round from marks that were begun: held again, clean afresh, then marks
 module _ (R : List Rule) (n : ℕ) (below : HeadsBelow n R) (le : n ≤ 512)
@@ -164,13 +164,9 @@ module _ (R : List Rule) (n : ℕ) (below : HeadsBelow n R) (le : n ≤ 512)
             (subst⁻¹ (λ (A : ℕ → Bool). IsHeld R A (member h')) u o.held, subst⁻¹ (λ (A : ℕ → Bool). Settled R A) u (g.when_false e));
       }
 
-  -- .. and fewer are left to mark, or it was the round that finds it out
-  pub round_falls : (again : Bool) → again ≡ true → left s' any < left s again
-  round_falls again e = rw e (go any refl)
-    where
-      go : (x : Bool) → any ≡ x → 512 - count 512 (member s') + cond x 1 0 < 512 - count 512 (member s) + 1
-      go true f = let g = by_round.grew f in let c = count≤ 512 (member s') in omega arith
-      go false f = let g = ap (count 512) (by_round.unchanged f) in omega arith
+  -- .. and fewer are left to mark if one was marked
+  pub round_falls : any ≡ true → left s' < left s
+  round_falls e = let g = by_round.grew e in let c = count≤ 512 (member s') in omega arith
 
 -- the rows of the literals of what a round marked
 module _ (s : List ℕ) (H C : ℕ → Bool) where
@@ -182,16 +178,13 @@ module _ (s : List ℕ) (H C : ℕ → Bool) where
   paired_members u row zero le = marking_starts can u
   paired_members u row (suc a) le =
       let m = paired_members u row a (omega arith) in
-      subst (Marking-below can u (paired_below u s H C (suc a))) (sym (add_one' a))
+      subst (Marking-below can u (paired_below u s H C (suc a))) (add-one a)
       (marking_goes_on can u (paired_below u s H C a) (paired_below u s H C (suc a)) a (m.length_same ∙ row) (omega arith) m refl)
-    where
-      add_one' : (n : ℕ) → suc n ≡ n + 1
-      add_one' n = omega arith
 
   pub marked_members : length s ≡ 8 → (n : ℕ) → n ≤ 512 → (length (marked_below s H C n) ≡ 8) × ((a : ℕ) → member
       (marked_below s H C n) a ≡ (member s a || ltb a n && can a))
   unfolding marked_below
-  marked_members len zero le = (len, λ a. rw (le-ltb a 0 (omega arith)) (or_false_and (member s a) (can a)))
+  marked_members len zero le = (len, λ a. rw (le-ltb a 0 (omega arith)) (sym (or-false (member s a))))
   marked_members len (suc b) le =
       let m = marked_members len b (omega arith) in (
         length_one (marked_below s H C b) b (can b) ∙ m.0,
@@ -209,7 +202,7 @@ module _ (s : List ℕ) (H C : ℕ → Bool) where
 
       here : (x : Bool) → can b ≡ x → length (marked_below s H C b) ≡ 8 → member (marked_below s H C b) b ≡ (member s b || ltb b b && can b)
           → member (marked_one (marked_below s H C b) b x) b ≡ (member s b || x)
-      here true e l q = member_put_in_same (marked_below s H C b) b (omega arith) ∙ or_true (member s b)
+      here true e l q = member_put_in_same (marked_below s H C b) b (omega arith) ∙ sym (or-true (member s b))
       here false e l q = q ∙ ap (λ (x : Bool). member s b || x && can b) (le-ltb b b (omega arith))
 
       other : (x : Bool) (a : ℕ) → (a ≡ b → ⊥) → member (marked_one (marked_below s H C b) b x) a ≡ member (marked_below s H C b) a
@@ -217,42 +210,69 @@ module _ (s : List ℕ) (H C : ℕ → Bool) where
       other false a n = refl
 
 -- after a round all stands as before it, for the marks that it made
-module _ (t : List ℕ) (n : ℕ) (le : n ≤ 512) (s s' shut shut' h ready ready' counts : List ℕ) (C : ℕ → Bool) (any : Bool)
-    (len : length s ≡ 8) (row : length shut ≡ 16) (pairs : PairsOf shut (member s)) (work : Working t h ready counts (replicate 16 0))
-    (none : (l : ℕ) → member ready l ≡ false) (held : IsHeld (rules_of t) (member s) (member h)) (over : RoundOver s (member h) C n any s')
-    (shut-is : shut' ≡ paired_below shut s (member h) C n) (ready-is : ready' ≡ paired_below ready s (member h) C n) where
+module _ (t : List ℕ) (n : ℕ) (le : n ≤ 512) (m m' : Unsettled) (C : ℕ → Bool) (any : Bool)
+    (len : length m.marks ≡ 8) (row : length m.shut ≡ 16) (pairs : PairsOf m.shut (member m.marks)) (work : Working t m.held (replicate 16 0))
+    (none : (l : ℕ) → member m.held.ready l ≡ false) (held : IsHeld (rules_of t) (member m.marks) (member m.held.taken))
+    (all : MarkedAll m C n any m') where
+  abbrev H : ℕ → Bool
+  H = member m.held.taken
+
   abbrev new : ℕ → Bool
-  new a = ltb a n && markable (member s) (member h) C a
+  new a = ltb a n && markable (member m.marks) H C a
 
-  shut_now : (l : ℕ) → member shut' l ≡ (member shut l || new (atom l))
-  shut_now l = ap (λ (u : List ℕ). member u l) shut-is ∙ (paired_members s (member h) C shut row n le).members l
+  shut_now : (l : ℕ) → member m'.shut l ≡ (member m.shut l || new (atom l))
+  shut_now l = ap (λ (u : List ℕ). member u l) all.shut ∙ (paired_members m.marks H C m.shut row n le).members l
 
-  ready_now : (l : ℕ) → member ready' l ≡ new (atom l)
+  ready_now : (l : ℕ) → member m'.held.ready l ≡ new (atom l)
   ready_now l =
-      ap (λ (u : List ℕ). member u l) ready-is ∙ (paired_members s (member h) C ready work.ready_row n le).members l
+      ap (λ (u : List ℕ). member u l) all.ready ∙ (paired_members m.marks H C m.held.ready work.ready_row n le).members l
       ∙ ap (λ (b : Bool). b || new (atom l)) (none l)
 
-  marks_now : (a : ℕ) → member s' a ≡ (member s a || new a)
-  marks_now a = ap (λ (u : List ℕ). member u a) over.marks_are ∙ (marked_members s (member h) C len n le).1 a
+  marks_now : (a : ℕ) → member m'.marks a ≡ (member m.marks a || new a)
+  marks_now a = ap (λ (u : List ℕ). member u a) all.over.marks_are ∙ (marked_members m.marks H C len n le).1 a
 
-  pub standing_on : Standing t s' shut' h ready' counts
+  pub standing_on : Standing t m'
   standing_on =
       record {
-        shut_row = ap length shut-is ∙ (paired_members s (member h) C shut row n le).length_same ∙ row;
+        shut_row = ap length all.shut ∙ (paired_members m.marks H C m.shut row n le).length_same ∙ row;
         pairs = λ l. shut_now l ∙ ap (λ (b : Bool). b || new (atom l)) (pairs l) ∙ sym (marks_now (atom l));
-        working = working_more t h ready ready' counts (replicate 16 0)
-            (ap length ready-is ∙ (paired_members s (member h) C ready work.ready_row n le).length_same ∙ work.ready_row)
+        working = working_more t m.held m'.held (replicate 16 0) all.taken all.counts
+            (ap length all.ready ∙ (paired_members m.marks H C m.held.ready work.ready_row n le).length_same ∙ work.ready_row)
             (λ l k. absurd (subst T (none l) k)) work;
-        pending = λ l k. from_base (subst⁻¹ T (marks_now (atom l)) (or_right (member s (atom l)) (new (atom l)) (subst T (ready_now l) k)));
-        marked = λ l k. ⊎_elim (λ (y : T (member s (atom l))). inl ((held l).1 (from_base y)))
-            (λ (y : T (new (atom l))). inr (subst⁻¹ T (ready_now l) y)) (or_cases (member s (atom l)) (new (atom l)) (subst T (marks_now (atom l)) k));
+        pending = λ l k. from_base (subst⁻¹ T (marks_now (atom l)) (or_right (member m.marks (atom l)) (new (atom l)) (subst T (ready_now l) k)));
+        marked = λ l k. ⊎_elim (λ (y : T (member m.marks (atom l))). inl (subst⁻¹ (λ (u : List ℕ). T (member u l)) all.taken
+            ((held l).1 (from_base y))))
+            (λ (y : T (new (atom l))). inr (subst⁻¹ T (ready_now l) y))
+            (or_cases (member m.marks (atom l)) (new (atom l)) (subst T (marks_now (atom l)) k));
       }
 
--- no atom was looked at, and then all
-pub none_paired : (u s : List ℕ) (H C : ℕ → Bool) → u ≡ paired_below u s H C 0
-unfolding paired_below
-none_paired u s H C = refl
+  pub round_on : IsClean (rules_of t) (member m.marks) C → Round (rules_of t) n m.marks m'.marks m'.held.taken any
+  round_on clean =
+      record {
+        held_length = ap length all.taken ∙ work.taken_row;
+        held = subst⁻¹ (λ (u : List ℕ). IsHeld (rules_of t) (member m.marks) (member u)) all.taken held;
+        clean = C;
+        clean_is = clean;
+        over = subst⁻¹ (λ (u : List ℕ). RoundOver m.marks (member u) C n any m'.marks) all.taken all.over;
+      }
 
-pub pairs_end : (u u' s : List ℕ) (H C : ℕ → Bool) (a n : ℕ) → a ≤ n → n ≤ a → u' ≡ paired_below u s H C a
-    → u' ≡ paired_below u s H C n
-pairs_end u u' s H C a n h k e = subst (λ (x : ℕ). u' ≡ paired_below u s H C x) (omega arith) e
+-- no atom was looked at yet
+pub none_marked : (m : Unsettled) (C : ℕ → Bool) → MarkedAll m C 0 false m
+unfolding paired_below
+none_marked m C = record { over = round_begins m.marks (member m.held.taken) C; shut = refl; ready = refl; taken = refl; counts = refl }
+
+-- one atom more was looked at
+pub marked_more : (m m₁ m₂ : Unsettled) (C : ℕ → Bool) (a : ℕ) (any marked any' : Bool) → length m.marks ≡ 8 → a < 512
+    → MarkedAll m C a any m₁ → marked ≡ markable (member m₁.marks) (member m₁.held.taken) C a → m₂ ≡ with_one m₁ a marked
+    → any' ≡ (any || marked) → MarkedAll m C (a + 1) any' m₂
+marked_more m m₁ m₂ C a any marked any' len lt k e em ea =
+    let H = member m.held.taken in
+    let can : marked ≡ markable (member m₁.marks) H C a = e ∙ ap (λ (u : List ℕ). markable (member m₁.marks) (member u) C a) k.taken in
+    record {
+      over = turn m.marks H C len m₁.marks m₂.marks a any marked any' lt k.over can (ap (λ (u : Unsettled). u.marks) em) (ea ∙ or_comm any marked);
+      shut = pair_turn m.marks H C len m.shut m₁.shut m₂.shut m₁.marks a any marked lt k.over can k.shut (ap (λ (u : Unsettled). u.shut) em);
+      ready = pair_turn m.marks H C len m.held.ready m₁.held.ready m₂.held.ready m₁.marks a any marked lt k.over can k.ready
+          (ap (λ (u : Unsettled). u.held.ready) em);
+      taken = ap (λ (u : Unsettled). u.held.taken) em ∙ k.taken;
+      counts = ap (λ (u : Unsettled). u.held.counts) em ∙ k.counts;
+    }

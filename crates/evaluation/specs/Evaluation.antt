@@ -1,9 +1,7 @@
 -- Believed: whole evaluation: every atom's value in the smallest well-supported model.
-use Rattle.std.specs.Prelude.{List, ◌≡◌, ℕ, length}
+use Rattle.std.specs.Prelude.{List, ◌≡◌, ℕ, length, Ok, Err}
 use Rattle.refusal.specs.declared.Refusal.{Refusal}
-use Rattle.refusal.specs.declared.Checked.{Checked}
-use Rattle.refusal.specs.declared.Checked.TheVariants.{Accepted, Refused}
-use Rattle.refusal.specs.Checks.{or_else}
+use Rattle.refusal.specs.Checks.{Checked, or_else}
 use Rattle.words.specs.Check.{table_check, table_too_long_fault, too_many_atoms_fault}
 use Rattle.words.specs.Layout.{rules_of}
 use Rattle.paper.specs.Rules.{positive}
@@ -16,6 +14,6 @@ evaluation_fault N t room = or_else (too_many_atoms_fault N) (or_else (table_too
 
 -- the answer, and the value room afterwards: the first N bytes are the codes of the values in the smallest well-supported model
 pub data EvaluationAllows (N : ℕ) (t room : List ℕ) : Checked → List ℕ → Type 0 where
-  refused : {f : Refusal} → evaluation_fault N t (length room) ≡ Refused f → EvaluationAllows N t room (Checked.Refused f) room
-  evaluated : evaluation_fault N t (length room) ≡ Accepted → (I : Interpretation) → Smallest (rules_of t) I
-      → EvaluationAllows N t room Checked.Accepted (written (λ a. value I (positive a)) N room)
+  refused : {f : Refusal} → evaluation_fault N t (length room) ≡ Err f → EvaluationAllows N t room (Err f) room
+  evaluated : evaluation_fault N t (length room) ≡ Ok tt → (I : Interpretation) → Smallest (rules_of t) I
+      → EvaluationAllows N t room (Ok tt) (written (λ a. value I (positive a)) N room)

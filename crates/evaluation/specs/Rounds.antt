@@ -8,6 +8,7 @@ use Rattle.bits.specs.Sets.{member, put_in}
 use Rattle.words.specs.Layout.{rules_of}
 use Rattle.pending.specs.Pending.{PairsOf, with_pair, Working}
 use Rattle.marking.specs.Markable.{markable}
+use Rattle.evaluation.specs.declared.Unsettled.{Unsettled}
 
 -- the marks after one atom was looked at
 abbrev pub marked_one : List ℕ → ℕ → Bool → List ℕ
@@ -24,10 +25,27 @@ unfoldable pub paired_below : List ℕ → List ℕ → (ℕ → Bool) → (ℕ 
 paired_below u s H C zero = u
 paired_below u s H C (suc a) = with_pair (paired_below u s H C a) a (markable (member s) H C a)
 
+-- an unsettled marking after one atom was looked at
+abbrev pub with_one : Unsettled → ℕ → Bool → Unsettled
+with_one m a b =
+    record {
+      marks = marked_one m.marks a b;
+      shut = with_pair m.shut a b;
+      held = record { taken = m.held.taken; ready = with_pair m.held.ready a b; counts = m.held.counts };
+    }
+
 -- the marks s became s' by looking at the atoms below n, and any says whether one was marked
 pub record RoundOver (s : List ℕ) (H C : ℕ → Bool) (n : ℕ) (any : Bool) (s' : List ℕ) : Type 0 where
   pub marks_are : s' ≡ marked_below s H C n
   pub any_is : any ≡ some_below (markable (member s) H C) n
+
+-- the atoms below n were looked at, and any says whether one was marked
+pub record MarkedAll (m : Unsettled) (C : ℕ → Bool) (n : ℕ) (any : Bool) (m' : Unsettled) : Type 0 where
+  pub over : RoundOver m.marks (member m.held.taken) C n any m'.marks
+  pub shut : m'.shut ≡ paired_below m.shut m.marks (member m.held.taken) C n
+  pub ready : m'.held.ready ≡ paired_below m.held.ready m.marks (member m.held.taken) C n
+  pub taken : m'.held.taken ≡ m.held.taken
+  pub counts : m'.held.counts ≡ m.held.counts
 
 -- marks made from none, and literals that are held with them
 pub record Begun (R : List Rule) (s h : List ℕ) : Type 0 where
@@ -50,10 +68,10 @@ pub record Round (R : List Rule) (n : ℕ) (s s' h' : List ℕ) (any : Bool) : T
   pub clean_is : IsClean R (member s) clean
   pub over : RoundOver s (member h') clean n any s'
 
--- between rounds: the literals of the marks s are in their row; what is held and pending is held, the marked literals among it
-pub record Standing (t s shut h ready counts : List ℕ) : Type 0 where
-  pub shut_row : length shut ≡ 16
-  pub pairs : PairsOf shut (member s)
-  pub working : Working t h ready counts (replicate 16 0)
-  pub pending : (l : ℕ) → T (member ready l) → Held (rules_of t) (member s) l
-  pub marked : (l : ℕ) → Marked (member s) (atom l) → T (member h l) ⊎ T (member ready l)
+-- between rounds: the literals of the marks are in their row; what is held and pending is held, the marked literals among it
+pub record Standing (t : List ℕ) (m : Unsettled) : Type 0 where
+  pub shut_row : length m.shut ≡ 16
+  pub pairs : PairsOf m.shut (member m.marks)
+  pub working : Working t m.held (replicate 16 0)
+  pub pending : (l : ℕ) → T (member m.held.ready l) → Held (rules_of t) (member m.marks) l
+  pub marked : (l : ℕ) → Marked (member m.marks) (atom l) → T (member m.held.taken l) ⊎ T (member m.held.ready l)

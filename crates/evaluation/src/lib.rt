@@ -1,92 +1,17 @@
 #![tactic(auto)]
 
-ghost use Rattle.std.specs.Prelude.{◌≡◌, Bool, ◌||◌, ◌≤◌, ◌<◌, length};
+ghost use Rattle.std.specs.Prelude.{◌≡◌, Bool, ◌≤◌, ◌<◌, length};
 ghost use Rattle.limits.specs.Limits.{most_atoms};
 ghost use Rattle.bits.specs.Sets.{member};
 ghost use Rattle.words.specs.Layout.{rules_of};
-ghost use Rattle.index.specs.Index.{IndexOf, FactsOf};
-ghost use Rattle.pending.specs.Pending.{with_pair};
 ghost use Rattle.paper.specs.Rules.{HeadsBelow};
 ghost use Rattle.marking.specs.Markable.{markable};
 ghost use Rattle.evaluation.specs.Evaluation.{evaluation_fault, EvaluationAllows};
-ghost use Rattle.evaluation.specs.Rounds.{marked_one, paired_below, RoundOver, Begun, Settling, Round, Standing};
+ghost use Rattle.evaluation.specs.Rounds.{with_one, MarkedAll, Begun, Settling, Round, Standing};
 
-use refusal::Checked;
-
-// Marks atom `a` if it can be marked, and puts both its literals into the two rows; says whether it did.
-fn mark_one(
-    marks: &mut [u64],
-    shut: &mut [u64],
-    ready: &mut [u64],
-    held: &[u64],
-    clean: &[u64],
-    a: usize,
-) -> bool
-    requires { a < most_atoms }
-    ensures value { (result ≡ markable (member marks.old) (member held.now) (member clean.now) a) × (marks.new ≡ marked_one marks.old a result) }
-    ensures shut_after { (shut.new ≡ with_pair shut.old a result) × (ready.new ≡ with_pair ready.old a result) }
-{
-    if marking::is_markable(marks, held, clean, a) {
-        bits::put(marks, a);
-        pending::put_both(shut, a);
-        pending::put_both(ready, a);
-        true
-    } else {
-        false
-    }
-}
-
-fn either(a: bool, b: bool) -> bool
-    ensures { result ≡ (a || b) }
-{
-    if a { true } else { b }
-}
-
-// Marks every atom that can be marked, all by the same held and clean literals.
-fn mark_all(
-    marks: &mut [u64],
-    shut: &mut [u64],
-    ready: &mut [u64],
-    held: &[u64],
-    clean: &[u64],
-    n: usize,
-) -> bool
-    requires { (n ≤ most_atoms) × (length marks.old ≡ 8) × (length shut.old ≡ 16) × (length ready.old ≡ 16) }
-    ensures round_over { RoundOver marks.old (member held.now) (member clean.now) n result marks.new }
-    ensures shut_after { shut.new ≡ paired_below shut.old marks.old (member held.now) (member clean.now) n }
-    ensures ready_after { ready.new ≡ paired_below ready.old marks.old (member held.now) (member clean.now) n }
-{
-    let mut a: usize = 0;
-    let mut any = false;
-    while a < n {
-        let one = mark_one(marks, shut, ready, held, clean, a);
-        any = either(one, any);
-        a += 1;
-    }
-    any
-}
-
-// One round: held goes on, clean starts afresh, then every atom that can be marked is marked. Did it mark any?
-fn round(
-    table: &[u16],
-    index: &[u16],
-    facts: [u64; 16],
-    marks: &mut [u64],
-    shut: &mut [u64],
-    held: &mut [u64],
-    ready: &mut [u64],
-    counts: &mut [u8],
-    n: usize,
-) -> bool
-    requires { (n ≤ most_atoms) × IndexOf table.now index.now × FactsOf table.now facts × HeadsBelow n (rules_of table.now) × Begun (rules_of table.now) marks.old held.old × Standing table.now marks.old shut.old held.old ready.old counts.old }
-    ensures round { Round (rules_of table.now) n marks.old marks.new held.new result }
-    ensures standing { Standing table.now marks.new shut.new held.new ready.new counts.new }
-{
-    let none = [0u64; 16];
-    pending::close(table, index, held, ready, counts, &none);
-    let clean = pending::clean_without(table, index, facts, shut);
-    mark_all(marks, shut, ready, held, &clean, n)
-}
+use index::{Index, IndexedTable};
+use pending::Taking;
+use refusal::{Reason, Refusal};
 
 // Marks and held literals.
 #[derive(Clone, Copy)]
@@ -95,69 +20,112 @@ pub struct Marking {
     pub held: [u64; 16],
 }
 
-// Rounds until one marks nothing; in the first there are no marks, and the held literals are the clean ones.
-pub fn settle(table: &[u16], index: &[u16], facts: [u64; 16], n: usize) -> Marking
-    requires { (n ≤ most_atoms) × IndexOf table.now index.now × FactsOf table.now facts × HeadsBelow n (rules_of table.now) }
-    ensures { Settling (rules_of table.now) result.marks result.held Bool.false }
-{
-    let mut marks = [0u64; 8];
-    let mut shut = [0u64; 16];
-    let mut held = [0u64; 16];
-    let mut ready = facts;
-    let mut counts = [0u8; 8192];
-    let none = [0u64; 16];
-    pending::close(table, index, &mut held, &mut ready, &mut counts, &none);
-    let clean = held;
-    let mut again = mark_all(&mut marks, &mut shut, &mut ready, &held, &clean, n);
-    while again {
-        again = round(
-            table,
-            index,
-            facts,
-            &mut marks,
-            &mut shut,
-            &mut held,
-            &mut ready,
-            &mut counts,
-            n,
-        );
+// A marking before it is settled: its marks, both literals of each marked atom, and what is held with the marks.
+#[derive(Drop)]
+struct Unsettled {
+    marks: [u64; 8],
+    shut: [u64; 16],
+    held: Taking,
+}
+
+impl Unsettled {
+    // No marks, and nothing is held or pending.
+    const NO_MARKS: Unsettled = Unsettled {
+        marks: [0; 8],
+        shut: [0; 16],
+        held: Taking {
+            taken: [0; 16],
+            ready: [0; 16],
+            counts: [0; 8192],
+        },
+    };
+
+    // Marks atom `a` if it can be marked; then both its literals are shut out of the clean ones, and held. Was it marked?
+    fn mark_one(&mut self, clean: &[u64], a: usize) -> bool
+        requires { a < most_atoms }
+        ensures value { result ≡ markable (member self.old.marks) (member self.old.held.taken) (member clean.now) a }
+        ensures marked { self.new ≡ with_one self.old a result }
+    {
+        let can = marking::is_markable(&self.marks, &self.held.taken, clean, a);
+        if can {
+            bits::put(&mut self.marks, a);
+            pending::put_both(&mut self.shut, a);
+            pending::put_both(&mut self.held.ready, a);
+        }
+        can
     }
-    Marking { marks, held }
+
+    // Marks every atom that can be marked, all by the same held and clean literals. Was one marked?
+    fn mark_all(&mut self, clean: &[u64], n: usize) -> bool
+        requires { n ≤ most_atoms }
+        ensures { MarkedAll self.old (member clean.now) n result self.new }
+    {
+        let mut any = false;
+        for a in 0..n {
+            any |= self.mark_one(clean, a);
+        }
+        any
+    }
+
+    // One round: held goes on, clean starts afresh, then every atom that can be marked is marked. Was one marked?
+    fn round(&mut self, rules: &IndexedTable, n: usize) -> bool
+        requires { (n ≤ most_atoms) × HeadsBelow n (rules_of rules.now) × Begun (rules_of rules.now) self.old.marks self.old.held.taken × Standing rules.now self.old }
+        ensures round { Round (rules_of rules.now) n self.old.marks self.new.marks self.new.held.taken result }
+        ensures standing { Standing rules.now self.new }
+    {
+        self.held.close(rules.table, rules.index, &[0; 16]);
+        let clean = pending::clean_without(rules, &self.shut);
+        self.mark_all(&clean, n)
+    }
+}
+
+// Rounds until one marks nothing; in the first there are no marks, and the held literals are the clean ones.
+pub fn settle(rules: &IndexedTable, n: usize) -> Marking
+    requires { (n ≤ most_atoms) × HeadsBelow n (rules_of rules.now) }
+    ensures { Settling (rules_of rules.now) result.marks result.held Bool.false }
+{
+    let mut m = Unsettled::NO_MARKS;
+    m.held.ready = rules.facts();
+    m.held.close(rules.table, rules.index, &[0; 16]);
+    let clean = m.held.taken;
+    if m.mark_all(&clean, n) {
+        while m.round(rules, n) {}
+    }
+    Marking {
+        marks: m.marks,
+        held: m.held.taken,
+    }
 }
 
 #[tactic(auto, unfolding(crate::specs::Evaluation::evaluation_fault))]
-pub fn evaluation_fault(n: u64, table: &[u16], room: u64) -> Checked
+pub fn evaluation_fault(n: u64, table: &[u16], room: u64) -> Result<(), Refusal>
     ensures { result ≡ evaluation_fault n table.now room }
 {
     if limits::MOST_N < n {
-        return refusal::refused(refusal::TOO_MANY_ATOMS, 0);
+        return refusal::refused(Reason::TooManyAtoms, 0);
     }
-    refusal::first_of(
-        words::table_too_long(table),
-        refusal::first_of(values::room_too_small(n, room), words::check(n, table)),
-    )
+    words::table_too_long(table)?;
+    values::room_too_small(n, room)?;
+    words::check(n, table)
 }
 
 fn write_settled(table: &[u16], n: usize, values: &mut [u8])
-    requires { evaluation_fault n table.now (length values.old) ≡ Checked.Accepted }
-    ensures { EvaluationAllows n table.now values.old Checked.Accepted values.new }
+    requires { evaluation_fault n table.now (length values.old) ≡ Ok tt }
+    ensures { EvaluationAllows n table.now values.old (Ok tt) values.new }
 {
-    let mut index = [0u16; index::CELLS];
-    let mut facts = [0u64; 16];
-    index::build(table, &mut index, &mut facts);
-    let m = settle(table, &index, facts, n);
+    let mut room = Index::empty();
+    let rules = IndexedTable::build(table, &mut room);
+    let m = settle(&rules, n);
     let marks = m.marks;
     let held = m.held;
     values::write_values(values, &marks, &held, n);
 }
 
 // Every atom's value in the smallest well-supported model of the table's rules.
-pub fn evaluate(n: u64, table: &[u16], values: &mut [u8]) -> Checked
+pub fn evaluate(n: u64, table: &[u16], values: &mut [u8]) -> Result<(), Refusal>
     ensures { EvaluationAllows n table.now values.old result values.new }
 {
-    if let Checked::Refused(r) = evaluation_fault(n, table, values.len() as u64) {
-        return Checked::Refused(r);
-    }
+    evaluation_fault(n, table, values.len() as u64)?;
     write_settled(table, n as usize, values);
-    Checked::Accepted
+    Ok(())
 }

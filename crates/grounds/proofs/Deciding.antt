@@ -19,6 +19,7 @@ use Rattle.paper.proofs.Values.{3≤code→𝐭, code2→𝐢, body_of_fact}
 use Rattle.least.specs.Groups.{GroupNumber, first_group, later_group, Wholly, OnlyGroup, the_fact, the_group}
 use Rattle.least.proofs.Groups.{from_1}
 use Rattle.justified.specs.Justified.{Justified, by_6_or_7, by_8}
+use Rattle.justified.specs.declared.Line.{Line}
 use Rattle.justified.specs.ByLiteral.{rank_in}
 use Rattle.justified.proofs.Ranked.{one_group_𝐢}
 use Rattle.grounds.specs.Grounds.{below, carried, both_inconsistent, by_carried, grounds}
@@ -54,7 +55,7 @@ no_groups_lem→ : (βs : List (List ℕ)) → no_groups βs ≡ true → βs �
 no_groups_lem→ [] e = refl
 no_groups_lem→ (β ∷ βs) e = absurd (true≢false (sym e))
 
-module _ (I : Interpretation) (lines : List ℕ) (ρ : Rule) (l : ℕ) where
+module _ (I : Interpretation) (lines : List Line) (ρ : Rule) (l : ℕ) where
   abbrev before : ℕ → ℕ → Type 0
   before x y = rank_in lines x < rank_in lines y
 
@@ -67,11 +68,11 @@ module _ (I : Interpretation) (lines : List ℕ) (ρ : Rule) (l : ℕ) where
   wholly_below : (β : List ℕ) → ((ι : ℕ) → ι ∈ β → before ι ρ.head) → Wholly S β
   wholly_below β f ι m = lt→ltb (rank_in lines ι) (rank_in lines ρ.head) (f ι m)
 
-  abbrev Line : ℕ → Type 0
-  Line g = Justified (ρ ∷ []) I before l ρ.head g
+  abbrev LineBy : ℕ → Type 0
+  LineBy g = Justified (ρ ∷ []) I before l ρ.head g
 
   -- the tests pass: the line is justified
-  by_carried_lem : (g c : ℕ) → carried I S ρ.groups g ≡ c → (ρ.head ≡ l) ⊎ (ρ.head ≡ negation l) → by_carried I ρ l c ≡ true → Line g
+  by_carried_lem : (g c : ℕ) → carried I S ρ.groups g ≡ c → (ρ.head ≡ l) ⊎ (ρ.head ≡ negation l) → by_carried I ρ l c ≡ true → LineBy g
   by_carried_lem g c e own b = go (eqb c 3) refl (eqb c 2) refl b
     where
       σ : List ℕ → Rule
@@ -108,7 +109,7 @@ module _ (I : Interpretation) (lines : List ℕ) (ρ : Rule) (l : ℕ) where
           )
       go false ex false ey k = absurd (true≢false (sym k))
 
-  pub grounds→justified : (g : ℕ) → (ρ.head ≡ l) ⊎ (ρ.head ≡ negation l) → grounds I S ρ l g ≡ true → Line g
+  pub grounds→justified : (g : ℕ) → (ρ.head ≡ l) ⊎ (ρ.head ≡ negation l) → grounds I S ρ l g ≡ true → LineBy g
   unfolding grounds
   grounds→justified g own b = go (eqb g 0) refl b
     where
@@ -166,7 +167,7 @@ module _ (I : Interpretation) (lines : List ℕ) (ρ : Rule) (l : ℕ) where
       i_passes n (subst (λ (γ : List ℕ). group_value I γ ≡ 𝐢) e c.2)
       (wholly_below β (subst (λ (γ : List ℕ). (ι : ℕ) → ι ∈ γ → before ι ρ.head) e c.3)) v b
 
-  pub justified→grounds : (g : ℕ) → Line g → grounds I S ρ l g ≡ true
+  pub justified→grounds : (g : ℕ) → LineBy g → grounds I S ρ l g ≡ true
   justified→grounds g (by_6_or_7 τ σ r o s) =
       let e : τ ≡ ρ = Memᴰ.eq_of_singleton r.0 in supported_passes (subst (λ (z : Rule). OnlyGroup z g σ) e o) s
   justified→grounds g (by_8 τ σ r o v b q) =

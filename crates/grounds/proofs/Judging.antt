@@ -23,13 +23,14 @@ use Rattle.words.specs.RecordAt.{groups_in, rule_at}
 use Rattle.least.specs.Walk.{GroupsSkipped}
 use Rattle.valued.proofs.Through.{Through, This, through_start, through_next, through_end}
 use Rattle.justified.specs.Justified.{Justified, by_6_or_7, by_8}
+use Rattle.justified.specs.declared.Line.{Line}
 use Rattle.justified.specs.ByLiteral.{rank_in, head_in, group_in}
 use Rattle.justified.proofs.Laws.{only_head}
 use Rattle.grounds.specs.Grounds.{below, carried, by_carried, grounds, judged, with_judged, judged_both, JustifiedLines}
 use Rattle.grounds.proofs.Deciding.{grounds→justified, justified→grounds}
 
 -- the tests as the code makes them
-module _ (I : Interpretation) (lines : List ℕ) (ρ : Rule) (l : ℕ) where
+module _ (I : Interpretation) (lines : List Line) (ρ : Rule) (l : ℕ) where
   pub told_fact : (S : ℕ → Bool) (g : ℕ) {b : Bool} → g ≡ group_in lines l → g ≡ 0 → b ≡ (no_groups ρ.groups && eqb l ρ.head)
       → b ≡ grounds I S ρ l (group_in lines l)
   unfolding grounds
@@ -43,14 +44,6 @@ module _ (I : Interpretation) (lines : List ℕ) (ρ : Rule) (l : ℕ) where
       let r' : r ≡ rank_in lines ρ.head = er ∙ ap (rank_in lines) eh in
       eb ∙ ap (by_carried I ρ l) (ec ∙ ap₂ (λ (x y : ℕ). carried I (below lines x) ρ.groups y) r' e)
       ∙ rw (ne_eqb (group_in lines l) 0 (λ z. n (e ∙ z))) refl
-
-  pub told_judged : (x h : ℕ) {b y : Bool} → x ≡ head_in lines l → h ≡ ρ.head → x ≡ h
-      → b ≡ grounds I (below lines (rank_in lines ρ.head)) ρ l (group_in lines l) → b ≡ y → judged I lines ρ l ≡ y
-  told_judged x h ex eh e eb ey =
-      rw (eq-eqb (head_in lines l) ρ.head (sym ex ∙ e ∙ eh)) (sym eb ∙ ey)
-
-  pub told_other : (x h : ℕ) → x ≡ head_in lines l → h ≡ ρ.head → (x ≡ h → ⊥) → judged I lines ρ l ≡ false
-  told_other x h ex eh n = rw (ne_eqb (head_in lines l) ρ.head (λ e. n (ex ∙ e ∙ sym eh))) refl
 
 -- a set with a literal besides, if its line was judged so
 judged_member : (s : List ℕ) (l x : ℕ) (b : Bool) → l < 64 * length s → T (member (with_judged s l b) x) → T (member s x) ⊎
@@ -75,7 +68,7 @@ pub length_judged : (s : List ℕ) (l : ℕ) (b : Bool) → length (with_judged 
 length_judged s l true = length_put_in s l
 length_judged s l false = refl
 
-module _ (I : Interpretation) (lines : List ℕ) where
+module _ (I : Interpretation) (lines : List Line) where
   abbrev before : ℕ → ℕ → Type 0
   before x y = rank_in lines x < rank_in lines y
 
@@ -213,9 +206,3 @@ module _ (I : Interpretation) (lines : List ℕ) where
   pub judging_end : (t : List ℕ) (at : ℕ) (ok : List ℕ) → length t ≤ at → Judging t at ok → JustifiedLines (rules_of t) I lines (member ok)
   judging_end t at ok le w = subst⁻¹ (λ (Q : List TableRecord). JustifiedLines (rules_in Q) I lines (member ok))
       (through_end t w.passed at le w.through) w.lines_are
-
-  pub both_judged : (ρ : Rule) (s s₁ s₂ : List ℕ) (h x : ℕ) → h ≡ ρ.head → x ≡ negation h → s₁ ≡ with_judged s h (judged I lines ρ h)
-      → s₂ ≡ with_judged s₁ x (judged I lines ρ x) → s₂ ≡ judged_both I lines ρ s
-  both_judged ρ s s₁ s₂ h x eh ex e₁ e₂ =
-      e₂ ∙ ap₂ (λ (z : List ℕ) (y : ℕ). with_judged z y (judged I lines ρ y))
-      (e₁ ∙ ap (λ (y : ℕ). with_judged s y (judged I lines ρ y)) eh) (ex ∙ ap negation eh)

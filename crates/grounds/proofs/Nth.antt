@@ -1,8 +1,9 @@
 -- The group of a number, in the words of a record. Assumes nothing.
-use mathlib.Core.Bool.{Bool, true, false, cond}
+use Rattle.std.specs.List.{list_all}
+use mathlib.Core.Bool.{Bool, true, false, cond, ◌&&◌}
 use mathlib.Core.List.Memᴰ
 use mathlib.Core.List.{List, [], ◌∷◌}
-use mathlib.Core.Path.{◌≡◌, refl, sym, ap, ap₂, ◌∙◌, subst⁻¹}
+use mathlib.Core.Path.{◌≡◌, refl, sym, ap, ap₂, ◌∙◌, subst, subst⁻¹}
 use Prim.Native.Nat.{ℕ, zero, suc, ◌+◌, ◌-◌, ◌≤◌, ◌<◌}
 use native.Mathlib.Omega.{arith}
 use lib.ListN.{length, get_or, take, drop, length-drop}
@@ -10,7 +11,7 @@ use Rattle.sets.specs.Sets.{◌∈◌}
 use Rattle.paper.specs.Table1.{code}
 use Rattle.paper.specs.Fires.{wholly, no_groups}
 use Rattle.paper.specs.Definitions.{Interpretation, group_value}
-use Rattle.words.specs.Layout.{take_groups, drop_groups, literals_at}
+use Rattle.words.specs.Layout.{body_at, take_groups, drop_groups, literals_at}
 use Rattle.words.specs.RecordAt.{groups_in, body_from, rule_at, WholeGroups}
 use Rattle.words.proofs.Places.{word_at}
 use Rattle.words.proofs.Reading.{length_take_groups}
@@ -81,17 +82,25 @@ group_at t first m (suc g) at w l h s =
       is_carried = λ I S. q.is_carried I S ∙ ap (λ (γ : List ℕ). cond (wholly S γ) (code (group_value I γ)) 0) (sym β);
     }
 
--- what it carries, by whether it is wholly in the set
-module _ (t : List ℕ) (first m g at : ℕ) (q : GroupAt t first m g at) (I : Interpretation) (S : ℕ → Bool) (k : ℕ) (b : Bool)
-    (ek : k ≡ get_or t at 0)
-    (eb : b ≡ wholly S (take k (drop (literals_at at) t))) where
-  whole_is : wholly S (take (get_or t at 0) (drop (literals_at at) t)) ≡ b
-  whole_is = ap (λ (x : ℕ). wholly S (take x (drop (literals_at at) t))) (sym ek) ∙ sym eb
+-- the group of a number that a body has
+pub group_of : (t : List ℕ) (at : ℕ) {m g first place : ℕ} → WholeGroups (groups_in t at) (body_from t at) → 1 ≤ g → g ≤ m
+    → m ≡ groups_in t at → first ≡ body_at at → GroupsSkipped t first (g - 1) place → GroupAt t (body_at at) (groups_in t at) g place
+group_of t at {g = g} {place = place} w one le e f s =
+    group_at t (body_at at) (groups_in t at) _ _ w one (omega arith) (subst (λ (x : ℕ). GroupsSkipped t x (g - 1) place) f s)
 
-  pub carried_whole : (v : ℕ) → b ≡ true → v ≡ code (group_value I (take k (drop (literals_at at) t))) → v ≡ carried I S
-      (take_groups m (drop first t)) g
-  carried_whole v e ev =
-      ev ∙ ap (λ (x : ℕ). code (group_value I (take x (drop (literals_at at) t)))) ek ∙ sym (q.is_carried I S ∙ rw (whole_is ∙ e) refl)
+-- the test of all literals of a group
+all_is_wholly : (S : ℕ → Bool) (β : List ℕ) → list_all S β ≡ wholly S β
+all_is_wholly S [] = refl
+all_is_wholly S (x ∷ β) = ap (λ (b : Bool). S x && b) (all_is_wholly S β)
+
+-- what it carries, by whether it is wholly in the set
+module _ (t : List ℕ) (first m g at : ℕ) (q : GroupAt t first m g at) (I : Interpretation) (S : ℕ → Bool) {β : List ℕ} (b : Bool)
+    (eβ : β ≡ take (get_or t at 0) (drop (literals_at at) t)) (eb : b ≡ list_all (λ l. S l) β) where
+  whole_is : wholly S (take (get_or t at 0) (drop (literals_at at) t)) ≡ b
+  whole_is = ap (wholly S) (sym eβ) ∙ sym (eb ∙ all_is_wholly S β)
+
+  pub carried_whole : (v : ℕ) → b ≡ true → v ≡ code (group_value I β) → v ≡ carried I S (take_groups m (drop first t)) g
+  carried_whole v e ev = ev ∙ ap (λ (γ : List ℕ). code (group_value I γ)) eβ ∙ sym (q.is_carried I S ∙ rw (whole_is ∙ e) refl)
 
   pub carried_not : b ≡ false → 0 ≡ carried I S (take_groups m (drop first t)) g
   carried_not e = sym (q.is_carried I S ∙ rw (whole_is ∙ e) refl)

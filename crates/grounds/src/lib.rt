@@ -1,183 +1,131 @@
 #![tactic(auto)]
 
-ghost use Rattle.std.specs.Prelude.{◌&&◌, ◌≡◌, ◌+◌, ◌*◌, ◌≤◌, ◌<◌, ◌^◌, eqb, length, take, drop};
-ghost use Rattle.paper.specs.Fires.{wholly, no_groups};
-ghost use Rattle.paper.specs.Rules.{negation};
+ghost use Rattle.std.specs.Prelude.{◌&&◌, ◌≡◌, ◌*◌, ◌≤◌, ◌<◌, eqb};
+ghost use Rattle.std.specs.List.{list_all};
+ghost use Rattle.paper.specs.Fires.{no_groups};
 ghost use Rattle.bits.specs.Sets.{member};
 ghost use Rattle.words.specs.Check.{AcceptedTable};
 ghost use Rattle.words.specs.Layout.{body_at, rules_of};
-ghost use Rattle.words.specs.RecordAt.{groups_in, body_from, rule_at, WholeGroups};
+ghost use Rattle.words.specs.RecordAt.{groups_in};
 ghost use Rattle.least.specs.Walk.{GroupsSkipped};
-ghost use Rattle.values.specs.Given.{given};
-ghost use Rattle.valued.specs.Valued.{Codes, GroupsBelow};
+ghost use Rattle.valued.specs.InStructs.{model_of, rule_of};
 ghost use Rattle.justified.specs.ByLiteral.{rank_in, group_in};
 ghost use Rattle.grounds.specs.Grounds.{below, carried, both_inconsistent, by_carried, grounds, judged, with_judged, judged_both, JustifiedLines};
 
+use justified::Line;
+use valued::{Record, ValuedRecord, Values};
+
 // Has a literal a smaller rank than `rank`?
-fn is_below(lines: &[u16], rank: usize, l: usize) -> bool
-    requires { l < 2 ^ 16 }
+fn is_below(lines: &[Line], rank: u16, l: usize) -> bool
     ensures { result ≡ below lines.now rank l }
 {
-    words::word(lines, 3 * l) < rank
+    justified::line_of(lines, l).rank < rank
 }
 
-// Have all `k` literals from `at` on a smaller rank than `rank`?
-fn group_below(table: &[u16], lines: &[u16], rank: usize, at: usize, k: usize) -> bool
-    requires { at + k ≤ length table.now }
-    ensures { result ≡ wholly (below lines.now rank) (take k (drop at table.now)) }
+// Have all literals of a group a smaller rank than `rank`?
+fn group_below(lines: &[Line], rank: u16, group: &[u16]) -> bool
+    ensures { result ≡ list_all (λ l. below lines.now rank l) group.now }
 {
-    let mut i: usize = 0;
-    while i < k {
-        if is_below(lines, rank, words::word_inside(table, at + i)) {
-            i += 1;
-        } else {
-            return false;
-        }
-    }
-    true
+    group.iter().all(|l| is_below(lines, rank, *l as usize))
 }
 
-// The code of the value of group `g` of the record at `at`, if all its literals have a smaller rank; 0 otherwise.
-fn carried_code(
-    table: &[u16],
-    values: &[u8],
-    lines: &[u16],
-    n: usize,
-    at: usize,
-    rank: usize,
-    g: usize,
-) -> usize
-    requires { Codes n values.now × (body_at at ≤ length table.now) × WholeGroups (groups_in table.now at) (body_from table.now at) × GroupsBelow n (rule_at table.now at).groups × (1 ≤ g) }
-    ensures { result ≡ carried (given n values.now) (below lines.now rank) (rule_at table.now at).groups g }
+// The code of the value of group `g` of the record, if all its literals have a smaller rank; 0 otherwise.
+fn carried_code(rule: &ValuedRecord, lines: &[Line], rank: u16, g: usize) -> usize
+    requires { 1 ≤ g }
+    ensures { result ≡ carried (model_of rule.now.values) (below lines.now rank) (rule_of rule.now.record).groups g }
 {
-    let m = words::word_inside(table, at + words::GROUPS);
-    if m < g {
+    if rule.record.group_count() < g {
         return 0;
     }
-    let group = least::skip_groups(table, at + words::BODY, g - 1);
-    let k = words::word_inside(table, group);
-    let literals = group + words::LITERALS;
-    if group_below(table, lines, rank, literals, k) {
-        valued::group_code(table, values, n, literals, k)
+    let place = least::skip_groups(rule.record.table, rule.record.body(), g - 1);
+    let group = valued::group_at(rule.record.table, place);
+    if group_below(lines, rank, group) {
+        rule.values.group_code(group)
     } else {
         0
     }
 }
 
-// Is the record at `at` a fact for the literal?
-fn fact_of(table: &[u16], at: usize, l: usize) -> bool
-    requires { (body_at at ≤ length table.now) × WholeGroups (groups_in table.now at) (body_from table.now at) }
-    ensures { result ≡ (no_groups (rule_at table.now at).groups && eqb l (rule_at table.now at).head) }
+// Is the record a fact for the literal?
+fn fact_of(rule: &ValuedRecord, l: usize) -> bool
+    ensures { result ≡ (no_groups (rule_of rule.now.record).groups && eqb l (rule_of rule.now.record).head) }
 {
-    if words::word_inside(table, at + words::GROUPS) == 0 {
-        return l == words::word_inside(table, at);
-    }
-    false
+    rule.record.group_count() == 0 && l == rule.record.head()
 }
 
-// Are the literal and the whole body of the record at `at` inconsistent?
-fn both_inconsistent(table: &[u16], values: &[u8], n: usize, at: usize, l: usize) -> bool
-    requires { Codes n values.now × (body_at at ≤ length table.now) × WholeGroups (groups_in table.now at) (body_from table.now at) × GroupsBelow n (rule_at table.now at).groups × (l < 2 * n) }
-    ensures { result ≡ both_inconsistent (given n values.now) (rule_at table.now at) l }
+// Are the literal and the whole body of the record inconsistent?
+fn both_inconsistent(rule: &ValuedRecord, l: usize) -> bool
+    requires { l < 2 * rule.now.values.n }
+    ensures { result ≡ both_inconsistent (model_of rule.now.values) (rule_of rule.now.record) l }
 {
-    if valued::literal_code(values, n, l) == 2 {
-        let body = valued::body_code(table, values, n, at);
-        return body.code == 2;
-    }
-    false
+    rule.values.literal_code(l) == 2 && rule.body_code().code == 2
 }
 
 // Does a group that carries this code justify the line of the literal?
-fn by_carried(table: &[u16], values: &[u8], n: usize, at: usize, l: usize, c: usize) -> bool
-    requires { Codes n values.now × (body_at at ≤ length table.now) × WholeGroups (groups_in table.now at) (body_from table.now at) × GroupsBelow n (rule_at table.now at).groups × (l < 2 * n) }
-    ensures { result ≡ by_carried (given n values.now) (rule_at table.now at) l c }
+fn by_carried(rule: &ValuedRecord, l: usize, c: usize) -> bool
+    requires { l < 2 * rule.now.values.n }
+    ensures { result ≡ by_carried (model_of rule.now.values) (rule_of rule.now.record) l c }
 {
-    if c == 3 {
-        return l == words::word_inside(table, at);
+    match c {
+        3 => l == rule.record.head(),
+        2 => both_inconsistent(rule, l),
+        _ => false,
     }
-    if c == 2 {
-        return both_inconsistent(table, values, n, at, l);
-    }
-    false
 }
 
-// Does the group that the line of the literal names justify it, in the record at `at`?
-fn ground_holds(table: &[u16], values: &[u8], lines: &[u16], n: usize, at: usize, l: usize) -> bool
-    requires { Codes n values.now × (body_at at ≤ length table.now) × WholeGroups (groups_in table.now at) (body_from table.now at) × GroupsBelow n (rule_at table.now at).groups × (l < 2 * n) × (n ≤ 512) }
-    ensures { result ≡ grounds (given n values.now) (below lines.now (rank_in lines.now (rule_at table.now at).head)) (rule_at table.now at) l (group_in lines.now l) }
+// Does the group that the line of the literal names justify it, in the record?
+fn ground_holds(rule: &ValuedRecord, lines: &[Line], l: usize) -> bool
+    requires { l < 2 * rule.now.values.n }
+    ensures { result ≡ grounds (model_of rule.now.values) (below lines.now (rank_in lines.now (rule_of rule.now.record).head)) (rule_of rule.now.record) l (group_in lines.now l) }
 {
-    let g = words::word(lines, 3 * l + 2);
+    let g = justified::line_of(lines, l).group as usize;
     if g == 0 {
-        return fact_of(table, at, l);
+        return fact_of(rule, l);
     }
-    let head = words::word_inside(table, at);
-    let rank = words::word(lines, 3 * head);
-    by_carried(
-        table,
-        values,
-        n,
-        at,
-        l,
-        carried_code(table, values, lines, n, at, rank, g),
-    )
+    let head = rule.record.head();
+    let rank = justified::line_of(lines, head).rank;
+    by_carried(rule, l, carried_code(rule, lines, rank, g))
 }
 
-// Puts the literal into the set if its line names the record at `at` and is justified by it.
-fn judge_literal(
-    table: &[u16],
-    values: &[u8],
-    lines: &[u16],
-    ok: &mut [u64],
-    n: usize,
-    at: usize,
-    l: usize,
-)
-    requires { Codes n values.now × (body_at at ≤ length table.now) × WholeGroups (groups_in table.now at) (body_from table.now at) × GroupsBelow n (rule_at table.now at).groups × (l < 2 * n) × (n ≤ 512) }
-    ensures { ok.new ≡ with_judged ok.old l (judged (given n values.now) lines.now (rule_at table.now at) l) }
+// Puts the literal into the set if its line names the record and is justified by it.
+fn judge_literal(rule: &ValuedRecord, lines: &[Line], ok: &mut [u64], l: usize)
+    requires { l < 2 * rule.now.values.n }
+    ensures { ok.new ≡ with_judged ok.old l (judged (model_of rule.now.values) lines.now (rule_of rule.now.record) l) }
 {
-    if words::word(lines, 3 * l + 1) == words::word_inside(table, at) {
-        if ground_holds(table, values, lines, n, at, l) {
+    if justified::line_of(lines, l).head as usize == rule.record.head() {
+        if ground_holds(rule, lines, l) {
             bits::put(ok, l);
         }
     }
 }
 
-// The same literal with the other sign.
-fn negated(l: usize) -> usize
-    requires { l < 2 ^ 16 }
-    ensures { result ≡ negation l }
+// Judges the lines that the record can justify; says where the next begins.
+fn judge_record(rule: &ValuedRecord, lines: &[Line], ok: &mut [u64]) -> usize
+    requires { (rule_of rule.now.record).head < 2 * rule.now.values.n }
+    ensures groups_skipped { GroupsSkipped rule.now.record.table.now (body_at rule.now.record.at) (groups_in rule.now.record.table.now rule.now.record.at) result }
+    ensures ok_after { ok.new ≡ judged_both (model_of rule.now.values) lines.now (rule_of rule.now.record) ok.old }
 {
-    2 * (l / 2) + (1 - l % 2)
-}
-
-// Judges the lines that the record at `at` can justify; says where the next begins.
-fn judge_record(
-    table: &[u16],
-    values: &[u8],
-    lines: &[u16],
-    ok: &mut [u64],
-    n: usize,
-    at: usize,
-) -> usize
-    requires { Codes n values.now × (body_at at ≤ length table.now) × WholeGroups (groups_in table.now at) (body_from table.now at) × GroupsBelow n (rule_at table.now at).groups × ((rule_at table.now at).head < 2 * n) × (n ≤ 512) }
-    ensures groups_skipped { GroupsSkipped table.now (body_at at) (groups_in table.now at) result }
-    ensures ok_after { ok.new ≡ judged_both (given n values.now) lines.now (rule_at table.now at) ok.old }
-{
-    let head = words::word_inside(table, at);
-    judge_literal(table, values, lines, ok, n, at, head);
-    judge_literal(table, values, lines, ok, n, at, negated(head));
-    least::skip_record(table, at)
+    let head = rule.record.head();
+    judge_literal(rule, lines, ok, head);
+    judge_literal(rule, lines, ok, justified::negated(head));
+    least::skip_record(rule.record.table, rule.record.at)
 }
 
 // The literals whose lines the table justifies.
-pub fn justified_lines(n: usize, table: &[u16], values: &[u8], lines: &[u16]) -> [u64; 16]
-    requires { AcceptedTable n table.now × Codes n values.now }
-    ensures { JustifiedLines (rules_of table.now) (given n values.now) lines.now (member result) }
+pub fn justified_lines(table: &[u16], values: &Values, lines: &[Line]) -> [u64; 16]
+    requires { AcceptedTable values.now.n table.now }
+    ensures { JustifiedLines (rules_of table.now) (model_of values.now) lines.now (member result) }
 {
     let mut ok = [0u64; 16];
     let mut at: usize = 0;
+    // Each record says where the next one begins.
     while at < table.len() {
-        at = judge_record(table, values, lines, &mut ok, n, at);
+        let record = Record { table, at };
+        let rule = ValuedRecord {
+            values: *values,
+            record,
+        };
+        at = judge_record(&rule, lines, &mut ok);
     }
     ok
 }

@@ -9,10 +9,8 @@ use lib.Dec.{leb}
 use lib.ListN.{length}
 use borrow.Author.Tests.{eq-eqb, ne_eqb, lt-leb}
 use Rattle.refusal.specs.declared.Refusal.{Refusal}
-use Rattle.refusal.specs.Numbers.{table_too_long, too_many_atoms}
-use Rattle.refusal.specs.declared.Checked.{Checked}
-use Rattle.refusal.specs.declared.Checked.TheVariants.{Accepted, Refused}
-use Rattle.refusal.specs.declared.Decided.{Decided}
+use Rattle.refusal.specs.Numbers.{table_too_long, too_many_atoms, number_of}
+use Rattle.refusal.specs.Checks.{Checked, Decided}
 use Rattle.refusal.specs.Questions.{refused, answers_yes, answers_no}
 use Rattle.refusal.proofs.Laws.{or_else_nothing, refused≢accepted}
 use Rattle.refusal.proofs.Places.{PlacesTo}
@@ -29,6 +27,7 @@ use Rattle.host.specs.Conflict.{host_table_fault, packed_decided, HostConflict}
 use Rattle.host.specs.WholeWords.{CheckPackable, DecidedPackable, too_long_answer}
 use Rattle.host.proofs.Bytes.{length_words_in}
 use Rattle.host.proofs.Evaluating.{within_packable, lone_within}
+use Rattle.std.specs.Prelude.{Ok, Err}
 
 pub check_packable : (N : ℕ) (t : List ℕ) (x : Checked) → x ≡ table_check N t → CheckPackable x
 check_packable N t x e f p = within_packable (table_check N t) f (check_within N t) (sym e ∙ p)
@@ -48,7 +47,7 @@ conflict_too_long N bs a h e = rw e (go (leb N 512) refl)
     go false p = HostConflict.answered (refused {f = too_many_atoms} (rw p refl))
 
 pub conflict_cut : (N : ℕ) (bs t : List ℕ) (fault : Checked) (r : Refusal) (a : ℕ) → length bs % 2 ≡ 1 → t ≡ words_in bs
-    → fault ≡ table_check N t → then_lone_byte fault (length bs / 2) true ≡ Refused r → a ≡ packed r → HostConflict N bs a
+    → fault ≡ table_check N t → then_lone_byte fault (length bs / 2) true ≡ Err r → a ≡ packed r → HostConflict N bs a
 unfolding host_table_fault
 conflict_cut N bs t fault r a odd et ef e p =
     rw p (HostConflict.answered (refused {f = r} (rw (eq-eqb (length bs % 2) 1 odd, ← et, ← ef, ap length et ∙ length_words_in bs) e)))
@@ -73,17 +72,17 @@ module _ (N : ℕ) (bytes : List ℕ) where
 
   -- an answer tells its cause: 0 that there is no conflict, 1 that there is one, else the fault that the written order finds
   pub conflict_answer_tells : {answer : ℕ} → HostConflict N bytes answer
-      → ((host_table_fault N (words_in bytes) (lone_byte bytes) ≡ Accepted) × (Conflict (rules_of (words_in bytes)) → ⊥) × (answer ≡ 0))
-      ⊎ (((host_table_fault N (words_in bytes) (lone_byte bytes) ≡ Accepted) × Conflict (rules_of (words_in bytes)) × (answer ≡ 1))
-      ⊎ ((f : Refusal) × (host_table_fault N (words_in bytes) (lone_byte bytes) ≡ Refused f)
-      × (answer ≡ packed f) × (1 ≤ f.number) × (f.place < 4294967296)))
+      → ((host_table_fault N (words_in bytes) (lone_byte bytes) ≡ Ok tt) × (Conflict (rules_of (words_in bytes)) → ⊥) × (answer ≡ 0))
+      ⊎ (((host_table_fault N (words_in bytes) (lone_byte bytes) ≡ Ok tt) × Conflict (rules_of (words_in bytes)) × (answer ≡ 1))
+      ⊎ ((f : Refusal) × (host_table_fault N (words_in bytes) (lone_byte bytes) ≡ Err f)
+      × (answer ≡ packed f) × (1 ≤ number_of f.reason) × (f.place < 4294967296)))
   conflict_answer_tells (HostConflict.answered (answers_no e n)) = inl (e, n, refl)
   conflict_answer_tells (HostConflict.answered (answers_yes e c)) = inr (inl (e, c, refl))
   conflict_answer_tells (HostConflict.answered (refused {f} e)) =
-      let k : PlacesTo 8192 (Refused f) = subst (PlacesTo 8192) e (table_within N (words_in bytes) (lone_byte bytes)) in
+      let k : PlacesTo 8192 (Err f) = subst (PlacesTo 8192) e (table_within N (words_in bytes) (lone_byte bytes)) in
       inr (inr (f, e, refl, k.2, omega (arith, k.1)))
 
-  pub one_exactly_if_conflict : host_table_fault N (words_in bytes) (lone_byte bytes) ≡ Accepted → {answer : ℕ} → HostConflict N bytes answer
+  pub one_exactly_if_conflict : host_table_fault N (words_in bytes) (lone_byte bytes) ≡ Ok tt → {answer : ℕ} → HostConflict N bytes answer
       → (answer ≡ 1) ↔ Conflict (rules_of (words_in bytes))
   one_exactly_if_conflict accepted o =
       (told o, λ c. host_conflict_determined o (HostConflict.answered (answers_yes accepted c)))

@@ -6,7 +6,7 @@ use Prim.Native.Nat.{ℕ}
 use lib.ListN.{length}
 use Rattle.paper.specs.Rules.{Rule}
 use Rattle.paper.specs.Definitions.{Smallest}
-use Rattle.refusal.specs.declared.Checked.{Checked}
+use Rattle.refusal.specs.Checks.{Checked}
 use Rattle.refusal.proofs.Questions.{question_same}
 use Rattle.words.proofs.OnlyLines.{Alike}
 use Rattle.conflict.proofs.OnlyLines.{same_conflict}

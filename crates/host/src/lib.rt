@@ -7,22 +7,14 @@ ghost use Rattle.host.specs.WholeWords.{word_at, WordsEvaluation, too_long_answe
 ghost use Rattle.host.specs.Evaluation.{HostEvaluation, packed};
 ghost use Rattle.host.specs.Conflict.{HostConflict, packed_decided};
 
-use refusal::{Checked, Decided, Refusal};
+use refusal::{Reason, Refusal};
 
 // A word of two bytes, low byte first.
 fn word_of(bytes: &[u8], i: usize) -> u16
     requires { 2 * i + 1 < length bytes.now }
     ensures { result ≡ word_at bytes.now i }
 {
-    let low = wide(bytes[2 * i]);
-    let high = wide(bytes[2 * i + 1]);
-    low + 256 * high
-}
-
-fn wide(b: u8) -> u16
-    ensures { (result ≡ b) × (result < 256) }
-{
-    b as u16
+    u16::from_le_bytes([bytes[2 * i], bytes[2 * i + 1]])
 }
 
 // The whole words of the bytes; the rest of the buffer is untouched.
@@ -30,11 +22,8 @@ pub fn fill_words(bytes: &[u8], words: &mut [u16])
     requires { length bytes.now / 2 ≤ length words.old }
     ensures { words.new ≡ (words_in bytes.now ++ drop (length bytes.now / 2) words.old) }
 {
-    let m = bytes.len() / 2;
-    let mut i: usize = 0;
-    while i < m {
+    for i in 0..bytes.len() / 2 {
         words[i] = word_of(bytes, i);
-        i += 1;
     }
 }
 
@@ -43,20 +32,18 @@ pub fn pack(r: Refusal) -> u64
     requires { Packable r }
     ensures { result ≡ packed r }
 {
-    let number = r.number;
-    let place = r.place;
-    4294967296 * number + place
+    4294967296 * r.reason.number() + r.place
 }
 
 // What a lone byte after so many words is answered: their own fault comes first.
-pub fn cut_short(fault: Checked, words: usize) -> Refusal
+pub fn cut_short(fault: Result<(), Refusal>, words: usize) -> Refusal
     requires { (words ≤ most_words) × CheckPackable fault }
-    ensures { (then_lone_byte fault words Bool.true ≡ Checked.Refused result) × Packable result }
+    ensures { (then_lone_byte fault words Bool.true ≡ Err result) × Packable result }
 {
-    if let Checked::Refused(r) = fault {
+    if let Err(r) = fault {
         return r;
     }
-    refusal::at(refusal::CUT_SHORT, words)
+    refusal::at(Reason::CutShort, words)
 }
 
 // Whole words, and no byte after them.
@@ -64,8 +51,8 @@ fn evaluate_words(n: u64, words: &[u16], values: &mut [u8]) -> u64
     ensures { WordsEvaluation n words.now values.old result values.new }
 {
     match evaluation::evaluate(n, words, values) {
-        Checked::Accepted => 0,
-        Checked::Refused(r) => pack(r),
+        Ok(()) => 0,
+        Err(r) => pack(r),
     }
 }
 
@@ -74,9 +61,9 @@ pub fn too_long(n: u64) -> u64
     ensures { result ≡ too_long_answer n }
 {
     if limits::MOST_N < n {
-        return 4294967296 * refusal::TOO_MANY_ATOMS;
+        return pack(refusal::at(Reason::TooManyAtoms, 0));
     }
-    4294967296 * refusal::TABLE_TOO_LONG
+    pack(refusal::at(Reason::TableTooLong, 0))
 }
 
 // Evaluation over bytes: the answer is 0, or the refusal packed.
@@ -98,14 +85,14 @@ pub fn evaluate_bytes(n: u64, table: &[u8], values: &mut [u8]) -> u64
     evaluate_words(n, &words[..m], values)
 }
 
-fn pack_decided(answer: Decided) -> u64
+fn pack_decided(answer: Result<bool, Refusal>) -> u64
     requires { DecidedPackable answer }
     ensures { result ≡ packed_decided answer }
 {
     match answer {
-        Decided::No => 0,
-        Decided::Yes => 1,
-        Decided::Refused(r) => pack(r),
+        Ok(false) => 0,
+        Ok(true) => 1,
+        Err(r) => pack(r),
     }
 }
 

@@ -9,10 +9,8 @@ use lib.Dec.{leb}
 use lib.ListN.{length, take}
 use borrow.Author.Tests.{eq-eqb, ne_eqb, le-leb}
 use Rattle.refusal.specs.declared.Refusal.{Refusal}
-use Rattle.refusal.specs.declared.Checked.{Checked}
-use Rattle.refusal.specs.declared.Checked.TheVariants.{Accepted, Refused}
-use Rattle.refusal.specs.Numbers.{not_a_truth_code}
-use Rattle.refusal.specs.Checks.{or_else}
+use Rattle.refusal.specs.Checks.{Checked, or_else}
+use Rattle.refusal.specs.Numbers.{not_a_truth_code, number_of}
 use Rattle.refusal.proofs.Laws.{or_else_nothing, demanding_holds}
 use Rattle.refusal.proofs.Places.{PlacesTo}
 use Rattle.paper.specs.Definitions.{Interpretation}
@@ -30,25 +28,26 @@ use Rattle.reasoncheck.proofs.Checks.{fault_first}
 use Rattle.reasoncheck.proofs.Determined.{check_determined}
 use Rattle.hostreasons.specs.CheckBytes.{packed_check, HostCheck}
 use Rattle.hostreasons.specs.Readable.{NumberSmall}
+use Rattle.std.specs.Prelude.{Ok, Err}
 
 -- a refusal's number is one of the documents'
 abbrev pub KnownNumber : Checked → Type 0
-KnownNumber Accepted = Unit {0}
-KnownNumber (Refused f) = (1 ≤ f.number) × (f.number ≤ 34)
+KnownNumber (Ok tt) = Unit {0}
+KnownNumber (Err f) = (1 ≤ number_of f.reason) × (number_of f.reason ≤ 34)
 
 places_known : (b : ℕ) (x : Checked) → PlacesTo b x → KnownNumber x
-places_known b Accepted h = tt
-places_known b (Refused f) h = (h.2, omega (arith, h.0))
+places_known b (Ok tt) h = tt
+places_known b (Err f) h = (h.2, omega (arith, h.0))
 
 or_else_known : (x y : Checked) → KnownNumber x → KnownNumber y → KnownNumber (or_else x y)
-or_else_known Accepted y h k = k
-or_else_known (Refused f) y h k = h
+or_else_known (Ok tt) y h k = k
+or_else_known (Err f) y h k = h
 
 codes_known : (a : ℕ) (vs : List ℕ) → KnownNumber (codes_fault a vs)
 unfolding codes_fault
 codes_known a [] = tt
 codes_known a (v ∷ vs) =
-    demanding_holds KnownNumber Refused (leb v 3) (not_a_truth_code a) (codes_fault (suc a) vs) (omega arith, omega arith) (λ e. codes_known (suc a) vs)
+    demanding_holds KnownNumber Err (leb v 3) (not_a_truth_code a) (codes_fault (suc a) vs) (omega arith, omega arith) (λ e. codes_known (suc a) vs)
 
 fault_known : (N : ℕ) (t values : List ℕ) → KnownNumber (check_fault N t values)
 unfolding check_fault
@@ -70,10 +69,10 @@ module _ (N : ℕ) (t values text : List ℕ) where
   check_known (accepts e ls g m c f) = tt
 
   pub check_small : (x : Checked) → CheckAllows N t values text x → NumberSmall x
-  check_small x o f e = let k : KnownNumber (Refused f) = subst KnownNumber e (check_known o) in omega (arith, k.1)
+  check_small x o f e = let k : KnownNumber (Err f) = subst KnownNumber e (check_known o) in omega (arith, k.1)
 
 -- a place that has room is answered as it is
-packed_small : (f : Refusal) → f.place ≤ 8192 → packed_check (Refused f) ≡ packed f
+packed_small : (f : Refusal) → f.place ≤ 8192 → packed_check (Err f) ≡ packed f
 packed_small f h = rw (le-leb f.place 4294967295 (omega arith)) refl
 
 module _ (N : ℕ) (bs values text : List ℕ) where
@@ -88,7 +87,7 @@ module _ (N : ℕ) (bs values text : List ℕ) where
       not_nothing false z = omega (arith, z)
 
   pub check_cut : (t : List ℕ) (fault : Checked) (r : Refusal) (a : ℕ) → length bs % 2 ≡ 1 → t ≡ words_in bs
-      → fault ≡ evaluation_fault N t (length values) → then_lone_byte fault (length bs / 2) true ≡ Refused r → a ≡ packed r
+      → fault ≡ evaluation_fault N t (length values) → then_lone_byte fault (length bs / 2) true ≡ Err r → a ≡ packed r
       → HostCheck N bs values text a
   unfolding host_fault
   check_cut t fault r a odd et ef e p =
@@ -105,9 +104,9 @@ module _ (N : ℕ) (bs values text : List ℕ) where
 
       go : (x : Checked) → evaluation_fault N (words_in bs) (length values) ≡ x → CheckAllows N (words_in bs) values text r
           → HostCheck N bs values text (packed_check r)
-      go Accepted e c = HostCheck.answered (same ∙ e) c
-      go (Refused f) e c =
-          let first : Refused f ≡ check_fault N (words_in bs) values = fault_first N (words_in bs) values refl e in
-          let k : PlacesTo 8192 (Refused f) = subst (PlacesTo 8192) e (evaluation_within N (words_in bs) (length values)) in
-          let q : r ≡ Refused f = check_determined N (words_in bs) values text c (CheckAllows.refused (sym first)) in
+      go (Ok tt) e c = HostCheck.answered (same ∙ e) c
+      go (Err f) e c =
+          let first : Err f ≡ check_fault N (words_in bs) values = fault_first N (words_in bs) values refl e in
+          let k : PlacesTo 8192 (Err f) = subst (PlacesTo 8192) e (evaluation_within N (words_in bs) (length values)) in
+          let q : r ≡ Err f = check_determined N (words_in bs) values text c (CheckAllows.refused (sym first)) in
           subst⁻¹ (HostCheck N bs values text) (ap packed_check q ∙ packed_small f k.1) (HostCheck.refused (same ∙ e))

@@ -1,13 +1,12 @@
 -- Stage: refusals whose number, or number and place, have room in the answer.
-use Rattle.std.specs.Prelude.{◌≡◌, ◌<◌}
+use Rattle.std.specs.Prelude.{◌≡◌, ◌<◌, Err, Result, ℕ}
 use Rattle.refusal.specs.declared.Refusal.{Refusal}
-use Rattle.refusal.specs.declared.Checked.{Checked}
-use Rattle.refusal.specs.declared.Checked.TheVariants.{Refused}
-use Rattle.refusal.specs.declared.Numbered.{Numbered}
+use Rattle.refusal.specs.Checks.{Checked}
 use Rattle.host.specs.WholeWords.{Packable}
+use Rattle.refusal.specs.Numbers.{number_of}
 
 abbrev pub NumberSmall : Checked → Type 0
-NumberSmall c = (f : Refusal) → c ≡ Refused f → f.number < 4294967296
+NumberSmall c = (f : Refusal) → c ≡ Err f → number_of f.reason < 4294967296
 
-abbrev pub NumberedPackable : Numbered → Type 0
-NumberedPackable d = (f : Refusal) → d ≡ Numbered.Refused f → Packable f
+abbrev pub NumberedPackable : Result ℕ Refusal → Type 0
+NumberedPackable d = (f : Refusal) → d ≡ Err f → Packable f

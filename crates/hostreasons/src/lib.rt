@@ -1,11 +1,12 @@
 #![tactic(auto)]
 
 ghost use Rattle.std.specs.Prelude.{◌≡◌, ◌<◌};
+ghost use Rattle.refusal.specs.Numbers.{number_of};
 ghost use Rattle.hostreasons.specs.CheckBytes.{readable_place, packed_check, HostCheck};
 ghost use Rattle.hostreasons.specs.ReasonBytes.{packed_number, HostReasons};
 ghost use Rattle.hostreasons.specs.Readable.{NumberSmall, NumberedPackable};
 
-use refusal::{Checked, Numbered, Refusal};
+use refusal::Refusal;
 
 // A place above 4,294,967,295 is answered as that, or it would spoil the number.
 fn readable_place(place: u64) -> u64
@@ -18,21 +19,22 @@ fn readable_place(place: u64) -> u64
 }
 
 fn pack_readable(r: Refusal) -> u64
-    requires { r.number < 4294967296 }
-    ensures { result ≡ packed_check (Checked.Refused r) }
+    requires { number_of r.reason < 4294967296 }
+    ensures { result ≡ packed_check (Err r) }
 {
-    let number = r.number;
-    let place = readable_place(r.place);
-    host::pack(Refusal { number, place })
+    host::pack(Refusal {
+        reason: r.reason,
+        place: readable_place(r.place),
+    })
 }
 
-fn pack_checked(answer: Checked) -> u64
+fn pack_checked(answer: Result<(), Refusal>) -> u64
     requires { NumberSmall answer }
     ensures { result ≡ packed_check answer }
 {
     match answer {
-        Checked::Accepted => 0,
-        Checked::Refused(r) => pack_readable(r),
+        Ok(()) => 0,
+        Err(r) => pack_readable(r),
     }
 }
 
@@ -55,13 +57,13 @@ pub fn check_bytes(n: u64, table: &[u8], values: &[u8], text: &[u8]) -> u64
     pack_checked(reasoncheck::check_reasons(n, &words[..m], values, text))
 }
 
-fn pack_number(answer: Numbered) -> u64
+fn pack_number(answer: Result<u64, Refusal>) -> u64
     requires { NumberedPackable answer }
     ensures { result ≡ packed_number answer }
 {
     match answer {
-        Numbered::Number(k) => k,
-        Numbered::Refused(r) => host::pack(r),
+        Ok(k) => k,
+        Err(r) => host::pack(r),
     }
 }
 

@@ -3,8 +3,7 @@ use mathlib.Core.List.{List}
 use mathlib.Core.Path.{◌≡◌, ◌∙◌, subst₂}
 use Prim.Native.Nat.{ℕ, ◌/◌}
 use lib.ListN.{length}
-use Rattle.sheets.specs.declared.SheetAnswer.{SheetAnswer}
-use Rattle.sheets.specs.SheetEntry.{SheetAllows}
+use Rattle.sheets.specs.SheetEntry.{SheetAllows, SheetAnswer}
 use Rattle.hostsheet.specs.Rooms.{sized, room_for}
 use Rattle.hostsheet.specs.SheetBytes.{words_over, names_over, packed_answer, HostSheet}
 use Rattle.hostsheet.proofs.Rooms.{local, in_longer}

@@ -11,13 +11,12 @@ use borrow.Author.Tests.{leb-true}
 use Rattle.words.specs.Layout.{rules_in}
 use Rattle.refusal.proofs.Laws.{demanding_holds}
 use Rattle.refusal.specs.declared.Refusal.{Refusal}
-use Rattle.refusal.specs.Numbers.{text_room_too_small}
+use Rattle.refusal.specs.Numbers.{text_room_too_small, number_of}
 use Rattle.paper.specs.Table1.{code}
 use Rattle.paper.specs.Rules.{positive}
 use Rattle.paper.specs.Definitions.{Interpretation, value, Smallest, SmallestWellSupported}
 use Rattle.paper.proofs.Theorems.{smallest_by_test}
-use Rattle.refusal.specs.declared.Checked.{Checked}
-use Rattle.refusal.specs.declared.Checked.TheVariants.{Accepted, Refused as Faulty}
+use Rattle.refusal.specs.Checks.{Checked, demanding}
 use Rattle.refusal.proofs.Places.{PlacesTo, asking_to, Small}
 use Rattle.reader.specs.declared.Role.{Role}
 use Rattle.reader.specs.declared.Role.TheVariants.{Head, First, Further}
@@ -25,7 +24,6 @@ use Rattle.reader.specs.declared.SheetLiteral.{SheetLiteral}
 use Rattle.reader.specs.declared.Reading.{Reading}
 use Rattle.reader.specs.declared.Reading.TheVariants.{End, Refused as NotRead, Literal}
 use Rattle.reader.specs.Sheet.{byte_at, is_line_end, is_tab, is_space, is_minus, starts_name, name_run, may_follow, byte_before}
-use Rattle.refusal.specs.Checks.{demanding}
 use Rattle.reader.specs.Readings.{ended_name, name_at, literal_at, line_at, reading_after, reading_at, place_after}
 use Rattle.reader.proofs.Laws.{literal_read}
 use Rattle.literals.specs.Literals.{Sofar, nothing, after, literal_fault, fault_with}
@@ -33,13 +31,13 @@ use Rattle.sheetwords.specs.Sheets.{Outcome, accepted, refused, unless, by_readi
 use Rattle.sheetwords.proofs.Laws.{sheet_within}
 use Rattle.valuesheet.specs.Fitting.{bytes_for}
 use Rattle.valuesheet.proofs.Printing.{lines_length}
-use Rattle.sheets.specs.declared.SheetAnswer.{SheetAnswer}
-use Rattle.sheets.specs.SheetEntry.{SheetAllows, sheet_of}
+use Rattle.sheets.specs.SheetEntry.{SheetAllows, sheet_of, SheetAnswer}
 use Rattle.sheets.proofs.Laws.{sheet_one_rule}
 use Rattle.host.specs.Evaluation.{packed}
 use Rattle.host.specs.WholeWords.{Packable}
 use Rattle.hostsheet.specs.Rooms.{HasRoom}
 use Rattle.hostsheet.specs.SheetBytes.{HostSheet}
+use Rattle.std.specs.Prelude.{Ok, Err}
 
 -- no refusal's place is further than this: a name's 25th byte, just past the longest sheet
 abbrev furthest : ℕ
@@ -106,8 +104,8 @@ unfolding literal_fault
 literal_fault_small s p sofar l h k = fault_small _ _ _ _ p l.start h k
 
 unless_small : (c : Checked) (o : Outcome) → PlacesTo furthest c → SmallOutcome o → SmallOutcome (unless c o)
-unless_small Accepted o h k = k
-unless_small (Faulty f) o h k = h
+unless_small (Ok tt) o h k = k
+unless_small (Err f) o h k = h
 
 step_small : (s : List ℕ) (n p : ℕ) (sofar : Sofar) → ((q : ℕ) (x : Sofar) → SmallOutcome (sheet_from n s q x))
     → (r : Reading) → reading_at s p ≡ r → SmallOutcome (by_reading s p sofar r (sheet_from n s (place_after r p)))
@@ -150,15 +148,15 @@ value_sheet_is_short s wordRoom nameRoom x I e =
 -- a refusal's number is not 0, and number and place have room in the answer
 packs : (s : List ℕ) (wordRoom nameRoom : ℕ) (text : List ℕ) {r : SheetAnswer} {ws ns text' : List ℕ}
     → SheetAllows s wordRoom nameRoom text r ws ns text'
-    → (g : Refusal) → r ≡ SheetAnswer.Refused g → Packable g × (1 ≤ g.number)
+    → (g : Refusal) → r ≡ Err g → Packable g × (1 ≤ number_of g.reason)
 packs s wordRoom nameRoom text (SheetAllows.refused {f} e) g same =
     let small : Small furthest f = subst SmallOutcome e (outcome_small s wordRoom nameRoom) in
     let is : f ≡ g = cc in
-    subst (λ (x : Refusal). Packable x × (1 ≤ x.number)) is (record { number_small = omega arith; place_small = omega arith }, small.2)
+    subst (λ (x : Refusal). Packable x × (1 ≤ number_of x.reason)) is (record { number_small = omega arith; place_small = omega arith }, small.2)
 packs s wordRoom nameRoom text (SheetAllows.does_not_fit {x} {I} e i h) g same =
     let short = value_sheet_is_short s wordRoom nameRoom x I e in
     let is : text_room_too_small (length (sheet_of s x I)) ≡ g = cc in
-    subst (λ (y : Refusal). Packable y × (1 ≤ y.number)) is (record { number_small = omega arith; place_small = short }, omega arith)
+    subst (λ (y : Refusal). Packable y × (1 ≤ number_of y.reason)) is (record { number_small = omega arith; place_small = short }, omega arith)
 packs s wordRoom nameRoom text (SheetAllows.accepted {x} {I} e i h) g same = absurd (let z : ◌≡◌ {A = ℕ} 0 1 = cc in omega arith)
 
 pub has_room : (s : List ℕ) (wordRoom nameRoom : ℕ) (text : List ℕ) {r : SheetAnswer} {ws ns text' : List ℕ}
@@ -180,7 +178,7 @@ pub answer_tells : (s words names text : List ℕ) {a : ℕ} {ws ns text' : List
     ⊎ ((x : Sofar) × (I : Interpretation) × (sheet_outcome s (length words / 2) (length names / 4) ≡ accepted x)
     × SmallestWellSupported (rules_in x.records) I
     × (length text < length (sheet_of s x I)) × (f ≡ text_room_too_small (length (sheet_of s x I)))))
-    × (a ≡ packed f) × (1 ≤ f.number) × (f.place < 4294967296))
+    × (a ≡ packed f) × (1 ≤ number_of f.reason) × (f.place < 4294967296))
 answer_tells s words names text (HostSheet.answered (SheetAllows.refused {f} e)) =
     let p = packs s (length words / 2) (length names / 4) text (SheetAllows.refused e) f refl in
     inr (f, inl e, refl, p.1, p.0.place_small)

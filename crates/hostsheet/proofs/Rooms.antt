@@ -16,8 +16,7 @@ use Rattle.sheetwords.specs.Sheets.{accepted, sheet_outcome}
 use Rattle.sheetwords.proofs.Through.{demanding_accepted}
 use Rattle.buffers.specs.Padded.{padded}
 use Rattle.sheetwords.proofs.Laws.{sheet_within}
-use Rattle.sheets.specs.declared.SheetAnswer.{SheetAnswer}
-use Rattle.sheets.specs.SheetEntry.{SheetAllows}
+use Rattle.sheets.specs.SheetEntry.{SheetAllows, SheetAnswer}
 use Rattle.hostsheet.specs.Rooms.{sized, room_for}
 use Rattle.hostsheet.proofs.Laying.{length_sized, sized_at}
 

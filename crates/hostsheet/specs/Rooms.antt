@@ -1,9 +1,8 @@
 -- Stage: the entries a sheet is read into before they go as bytes, and answers that have room.
-use Rattle.std.specs.Prelude.{cond, ◌≡◌, List, [], ◌∷◌, ℕ, zero, suc, leb}
+use Rattle.std.specs.Prelude.{cond, ◌≡◌, List, [], ◌∷◌, ℕ, zero, suc, leb, Err}
 use Rattle.refusal.specs.declared.Refusal.{Refusal}
-use Rattle.sheets.specs.declared.SheetAnswer.{SheetAnswer}
-use Rattle.sheets.specs.declared.SheetAnswer.TheVariants.{Refused}
 use Rattle.host.specs.WholeWords.{Packable}
+use Rattle.sheets.specs.SheetEntry.{SheetAnswer}
 
 -- so many entries: those of a row, and zeros past its end
 unfoldable pub sized : ℕ → List ℕ → List ℕ
@@ -17,4 +16,4 @@ room_for limit whole = cond (leb limit whole) limit whole
 
 -- a refusal has room in the answer
 abbrev pub HasRoom : SheetAnswer → Type 0
-HasRoom r = (f : Refusal) → r ≡ Refused f → Packable f
+HasRoom r = (f : Refusal) → r ≡ Err f → Packable f

@@ -1,8 +1,6 @@
 -- Believed: the host's sheet entry, over bytes.
-use Rattle.std.specs.Prelude.{List, [], ◌∷◌, ◌++◌, ℕ, ◌*◌, ◌/◌, ◌%◌, length, drop}
-use Rattle.sheets.specs.declared.SheetAnswer.{SheetAnswer}
-use Rattle.sheets.specs.declared.SheetAnswer.TheVariants.{Accepted, Refused}
-use Rattle.sheets.specs.SheetEntry.{SheetAllows}
+use Rattle.std.specs.Prelude.{List, [], ◌∷◌, ◌++◌, ℕ, ◌*◌, ◌/◌, ◌%◌, length, drop, Ok, Err}
+use Rattle.sheets.specs.SheetEntry.{SheetAllows, SheetAnswer}
 use Rattle.host.specs.Evaluation.{packed}
 
 -- a word goes as two bytes, low byte first
@@ -24,8 +22,8 @@ names_over ns bytes = name_bytes ns ++ drop (4 * (length bytes / 4)) bytes
 
 -- the value sheet's length, or 2^32 times the number, plus the place
 abbrev pub packed_answer : SheetAnswer → ℕ
-packed_answer (Accepted c) = c.bytes
-packed_answer (Refused f) = packed f
+packed_answer (Ok c) = c.bytes
+packed_answer (Err f) = packed f
 
 -- the answer, and every byte of the three buffers afterwards
 pub data HostSheet (s words names text : List ℕ) : ℕ → List ℕ → List ℕ → List ℕ → Type 0 where

@@ -4,7 +4,8 @@ ghost use Rattle.std.specs.Prelude.{◌≡◌, ◌+◌, ◌/◌, ◌%◌, ◌<�
 ghost use Rattle.hostsheet.specs.Rooms.{sized, room_for, HasRoom};
 ghost use Rattle.hostsheet.specs.SheetBytes.{words_over, names_over, packed_answer, HostSheet};
 
-use sheets::SheetAnswer;
+use refusal::Refusal;
+use sheets::SheetCounts;
 
 fn low_byte(x: usize) -> u8
     ensures { result ≡ x % 256 }
@@ -38,11 +39,8 @@ fn put_name(bytes: &mut [u8], at: usize, e: usize)
 fn put_words(words: &[u16], bytes: &mut [u8])
     ensures { bytes.new ≡ words_over (sized (length bytes.old / 2) words.now) bytes.old }
 {
-    let whole = bytes.len() / 2;
-    let mut i: usize = 0;
-    while i < whole {
+    for i in 0..bytes.len() / 2 {
         put_word(bytes, 2 * i, words::word(words, i));
-        i += 1;
     }
 }
 
@@ -50,11 +48,8 @@ fn put_words(words: &[u16], bytes: &mut [u8])
 fn put_names(names: &[u32], bytes: &mut [u8])
     ensures { bytes.new ≡ names_over (sized (length bytes.old / 4) names.now) bytes.old }
 {
-    let whole = bytes.len() / 4;
-    let mut i: usize = 0;
-    while i < whole {
+    for i in 0..bytes.len() / 4 {
         put_name(bytes, 4 * i, names::entry(names, i));
-        i += 1;
     }
 }
 
@@ -62,16 +57,16 @@ fn room_for(limit: usize, whole: usize) -> usize
     ensures value { result ≡ room_for limit whole }
     ensures upper_bound { result ≤ limit }
 {
-    if limit <= whole { limit } else { whole }
+    limit.min(whole)
 }
 
-fn answer(r: SheetAnswer) -> u64
+fn answer(r: Result<SheetCounts, Refusal>) -> u64
     requires { HasRoom r }
     ensures { result ≡ packed_answer r }
 {
     match r {
-        SheetAnswer::Accepted(c) => c.bytes as u64,
-        SheetAnswer::Refused(f) => host::pack(f),
+        Ok(c) => c.bytes as u64,
+        Err(f) => host::pack(f),
     }
 }
 

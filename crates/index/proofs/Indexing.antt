@@ -8,6 +8,7 @@ use native.Mathlib.Omega.{arith}
 use native.Mathlib.Decide.{ℕ_discrete}
 use lib.Dec.{T}
 use lib.ListN.{length, get_or, set, drop, replicate, length-set, length-replicate, get_or-replicate, drop_of_length-le}
+use Rattle.std.proofs.lemmas.List.{nil_from_length}
 use lib.Seq.{get_or-set_same, get_or-set_other, drop-cons, drop-drop}
 use Rattle.paper.specs.Rules.{Rule, HeadsBelow}
 use Rattle.sets.specs.Sets.{◌∈◌}
@@ -17,72 +18,30 @@ use Rattle.bits.proofs.Laws.{member_put_in_same, member_put_in_other, length_put
 use Rattle.words.specs.Layout.{words_of, rules_in, rules_of, take_groups, drop_groups, body_at, groups_at, literals_at, line_number_at}
 use Rattle.words.proofs.Reading.{take_groups_groups_words, records_of_record, records_of_nothing}
 use Rattle.index.specs.Placed.{Placed, placed, end_of, placed_of, Table, LiteralAt, Cursor}
-use Rattle.index.specs.Index.{last_in, earlier_in, owner_in, with_owner, with_place, Latest, Indexed, FactIn, with_fact, FactsTo, IndexedTo, IndexOf, FactsOf}
+use Rattle.index.specs.declared.Index.{Index}
+use Rattle.index.specs.Index.{empty, last_in, earlier_in, owner_in, with_owner, with_place, Latest, Indexed, FactIn, with_fact, with_fact_in, FactsTo, IndexedTo, IndexOf, FactsOf}
 use Rattle.index.proofs.Placed.{Front, cursor_starts, cursor_front, cursor_record, cursor_anew, record_alone, literal_word, literal_inside, nth_member, code_below, head_below, table_short}
 
--- the cells after a literal more
-module _ (x : List ℕ) (l p g : ℕ) (size : length x ≡ 17408) (literal : l < 1024) (place : p < 8192) where
-  last_same : last_in (with_place x l p g) l ≡ p
-  unfolding with_place with_owner
-  last_same =
-      get_or-set_other (set (set x (p + 1024) (last_in x l)) l p) (p + 9216) l g 0 (λ e. omega arith)
-      ∙ get_or-set_same (set x (p + 1024) (last_in x l)) l p 0 (let s = length-set x (p + 1024) (last_in x l) in omega arith)
-
-  last_other : (m : ℕ) → m < 1024 → (m ≡ l → ⊥) → last_in (with_place x l p g) m ≡ last_in x m
-  unfolding with_place with_owner
-  last_other m lt n =
-      get_or-set_other (set (set x (p + 1024) (last_in x l)) l p) (p + 9216) m g 0 (λ e. omega arith)
-      ∙ get_or-set_other (set x (p + 1024) (last_in x l)) l m p 0 n ∙ get_or-set_other x (p + 1024) m (last_in x l) 0 (λ e. omega arith)
-
-  earlier_same : earlier_in (with_place x l p g) p ≡ last_in x l
-  unfolding with_place with_owner
-  earlier_same =
-      get_or-set_other (set (set x (p + 1024) (last_in x l)) l p) (p + 9216) (p + 1024) g 0 (λ e. omega arith)
-      ∙ get_or-set_other (set x (p + 1024) (last_in x l)) l (p + 1024) p 0 (λ e. omega arith)
-      ∙ get_or-set_same x (p + 1024) (last_in x l) 0 (omega arith)
-
-  earlier_other : (c : ℕ) → c < 8192 → (c ≡ p → ⊥) → earlier_in (with_place x l p g) c ≡ earlier_in x c
-  unfolding with_place with_owner
-  earlier_other c lt n =
-      get_or-set_other (set (set x (p + 1024) (last_in x l)) l p) (p + 9216) (c + 1024) g 0 (λ e. omega arith)
-      ∙ get_or-set_other (set x (p + 1024) (last_in x l)) l (c + 1024) p 0 (λ e. omega arith)
-      ∙ get_or-set_other x (p + 1024) (c + 1024) (last_in x l) 0 (λ e. n (omega arith))
-
-  size_same : length (with_place x l p g) ≡ 17408
-  unfolding with_place with_owner
-  size_same =
-      length-set (set (set x (p + 1024) (last_in x l)) l p) (p + 9216) g ∙ length-set (set x (p + 1024) (last_in x l)) l p
-      ∙ length-set x (p + 1024) (last_in x l) ∙ size
-
-  owner_same : owner_in (with_place x l p g) p ≡ g
-  unfolding with_place with_owner
-  owner_same =
-      get_or-set_same (set (set x (p + 1024) (last_in x l)) l p) (p + 9216) g 0
-      (let s = length-set x (p + 1024) (last_in x l) in let s' = length-set (set x (p + 1024) (last_in x l)) l p in omega arith)
-
-  owner_other : (q : ℕ) → (q ≡ p → ⊥) → owner_in (with_place x l p g) q ≡ owner_in x q
-  unfolding with_place with_owner
-  owner_other q n =
-      get_or-set_other (set (set x (p + 1024) (last_in x l)) l p) (p + 9216) (q + 9216) g 0 (λ e. n (omega arith))
-      ∙ get_or-set_other (set x (p + 1024) (last_in x l)) l (q + 9216) p 0 (λ e. omega arith)
-      ∙ get_or-set_other x (p + 1024) (q + 9216) (last_in x l) 0 (λ e. omega arith)
-
-pub indexed_starts : (G : List Placed) → Indexed G (replicate 17408 0) 0
+pub indexed_starts : (G : List Placed) → Indexed G empty 0
 indexed_starts G =
     record {
-      size = length-replicate {A = ℕ} 17408 0;
-      last = λ l lt. record { none_after = λ c a k. absurd (omega arith); stands = inl (get_or-replicate {A = ℕ} 17408 l 0 0 (omega arith)) };
+      lasts = length-replicate {A = ℕ} 1024 0;
+      earliers = length-replicate {A = ℕ} 8192 0;
+      owners = length-replicate {A = ℕ} 8192 0;
+      last = λ l lt. record { none_after = λ c a k. absurd (omega arith); stands = inl (get_or-replicate {A = ℕ} 1024 l 0 0 lt) };
       earlier = λ l c a k. absurd (omega arith);
       owner = λ γ m i lt k. absurd (omega arith);
       head = λ γ m k. absurd (omega arith);
     }
 
 -- nothing stands between two places
-pub indexed_on : (G : List Placed) (x : List ℕ) (p q : ℕ) → Indexed G x p → p ≤ q → ((l c : ℕ) → LiteralAt G l c → c < q → c < p)
+pub indexed_on : (G : List Placed) (x : Index) (p q : ℕ) → Indexed G x p → p ≤ q → ((l c : ℕ) → LiteralAt G l c → c < q → c < p)
     → ((γ : Placed) → γ ∈ G → γ.at < q → γ.at < p) → Indexed G x q
 indexed_on G x p q ix le literals groups =
     record {
-      size = ix.size;
+      lasts = ix.lasts;
+      earliers = ix.earliers;
+      owners = ix.owners;
       last = λ l lt.
           let w = ix.last l lt in
           record {
@@ -101,8 +60,7 @@ module _ (t : List ℕ) (table : Table t) where
   short = table_short t table
 
   -- before a group all of another one stands, or it stands after it
-  pub indexed_group : (g h m : ℕ) (x : List ℕ) → Front t g h m → Indexed (placed_of t) x g → Indexed (placed_of t) (with_owner x g h) (g + 1)
-  unfolding with_owner
+  pub indexed_group : (g h m : ℕ) (x : Index) → Front t g h m → Indexed (placed_of t) x g → Indexed (placed_of t) (with_owner x g h) (g + 1)
   indexed_group g h m x f ix =
       let G = placed_of t in
       let sized : g < 8192 = (let w = f.words.inside in let s = short in omega arith) in
@@ -112,34 +70,32 @@ module _ (t : List ℕ) (table : Table t) where
       (λ (e : literals_at g + length f.literals ≤ a.group.at). absurd (omega (arith, a.place))))
       (f.alone a.group a.one) in
       record {
-        size = length-set x (g + 9216) h ∙ ix.size;
+        lasts = ix.lasts;
+        earliers = ix.earliers;
+        owners = length-set x.owner g h ∙ ix.owners;
         last = λ l lt.
             let w = ix.last l lt in
-            subst⁻¹ (Latest G l (g + 1)) (get_or-set_other x (g + 9216) l h 0 (λ e. omega arith))
-            (record {
+            record {
               none_after = λ c a k. w.none_after c a (before l c a k);
               stands = ⊎_elim inl (λ (s : LiteralAt G l (last_in x l) × (last_in x l < g)). inr (s.0, (let k = s.1 in omega arith))) w.stands;
-            });
-        earlier = λ l c a k.
-            subst⁻¹ (Latest G l c) (get_or-set_other x (g + 9216) (c + 1024) h 0
-            (λ e. let lt = literal_inside t table l c a in let s = short in omega arith))
-            (ix.earlier l c a (before l c a k));
+            };
+        earlier = λ l c a k. ix.earlier l c a (before l c a k);
         owner = λ γ i n lt k.
             let less = before (get_or γ.literals n 0) (literals_at γ.at + n)
             (record { group = γ; one = i; number = n; inside = lt; place = refl; literal = refl }) k in
-            get_or-set_other x (g + 9216) (literals_at γ.at + n + 9216) h 0 (λ e. omega arith) ∙ ix.owner γ i n lt less;
+            get_or-set_other x.owner g (literals_at γ.at + n) h 0 (λ e. omega arith) ∙ ix.owner γ i n lt less;
         head = λ γ i k.
             elim (ℕ_discrete γ.at g) [
-              | yes e ↦ ap (λ (q : ℕ). get_or (set x (g + 9216) h) (q + 9216) 0) e
-                  ∙ get_or-set_same x (g + 9216) h 0 (let s = ix.size in omega arith)
+              | yes e ↦ ap (λ (q : ℕ). get_or (set x.owner g h) q 0) e
+                  ∙ get_or-set_same x.owner g h 0 (let s = ix.owners in omega arith)
                   ∙ ⊎_elim (λ (e' : end_of γ ≤ g). absurd (omega arith)) (⊎_elim (λ (e' : γ ≡ placed h g f.literals). sym (ap (λ
                   (δ : Placed). δ.head) e'))
                   (λ (e' : literals_at g + length f.literals ≤ γ.at). absurd (omega arith))) (f.alone γ i)
-              | no n ↦ get_or-set_other x (g + 9216) (γ.at + 9216) h 0 (λ e. n (omega arith)) ∙ ix.head γ i (omega arith)
+              | no n ↦ get_or-set_other x.owner g γ.at h 0 n ∙ ix.head γ i (omega arith)
             ];
       }
 
-  pub indexed_literal : (g h m i : ℕ) (x : List ℕ) (f : Front t g h m) → i < length f.literals → get_or f.literals i 0 < 1024
+  pub indexed_literal : (g h m i : ℕ) (x : Index) (f : Front t g h m) → i < length f.literals → get_or f.literals i 0 < 1024
       → Indexed (placed_of t) x (literals_at g + i)
       → Indexed (placed_of t) (with_place x (get_or f.literals i 0) (literals_at g + i) g) (literals_at g + i + 1)
   indexed_literal g h m i x f lt code ix =
@@ -153,31 +109,31 @@ module _ (t : List ℕ) (table : Table t) where
       ⊎_elim (λ (e : end_of γ ≤ g). absurd (omega arith)) (⊎_elim (λ (e : γ ≡ placed h g f.literals). ap (λ (δ : Placed). δ.at) e)
       (λ (e : literals_at g + length f.literals ≤ γ.at). absurd (omega arith))) (f.alone γ n) in
       record {
-        size = size_same x l p g ix.size code place;
+        lasts = length-set x.last l p ∙ ix.lasts;
+        earliers = length-set x.earlier p (last_in x l) ∙ ix.earliers;
+        owners = length-set x.owner p g ∙ ix.owners;
         last = λ k kt. elim (ℕ_discrete k l) [
           | yes e ↦ subst⁻¹ (λ (y : ℕ). Latest G y (p + 1) (last_in (with_place x l p g) y)) e
-              (subst⁻¹ (Latest G l (p + 1)) (last_same x l p g ix.size code place)
+              (subst⁻¹ (Latest G l (p + 1)) (get_or-set_same x.last l p 0 (let s = ix.lasts in omega (arith, code)))
               (record { none_after = λ c a less. omega arith; stands = inr (here, omega arith) }))
-          | no n ↦ subst⁻¹ (Latest G k (p + 1)) (last_other x l p g ix.size code place k kt n) (later k kt n)
+          | no n ↦ subst⁻¹ (Latest G k (p + 1)) (get_or-set_other x.last l k p 0 n) (later k kt n)
         ];
         earlier = λ k c a less. elim (ℕ_discrete c p) [
           | yes e ↦
               let a' : LiteralAt G k p = subst (LiteralAt G k) e a in
               subst⁻¹ (λ (y : ℕ). Latest G k y (earlier_in (with_place x l p g) y)) e
-              (subst⁻¹ (Latest G k p) (earlier_same x l p g ix.size code place)
+              (subst⁻¹ (Latest G k p) (get_or-set_same x.earlier p (last_in x l) 0 (let s = ix.earliers in omega arith))
               (subst⁻¹ (λ (y : ℕ). Latest G y p (last_in x l)) (only k a') (ix.last l code)))
-          | no n ↦ subst⁻¹ (Latest G k c)
-              (earlier_other x l p g ix.size code place c (let u = literal_inside t table k c a in let s = short in omega arith) n)
-              (ix.earlier k c a (omega arith))
+          | no n ↦ subst⁻¹ (Latest G k c) (get_or-set_other x.earlier p c (last_in x l) 0 n) (ix.earlier k c a (omega arith))
         ];
         owner = λ γ n j jt less. elim (ℕ_discrete (literals_at γ.at + j) p) [
-          | yes e ↦ ap (owner_in (with_place x l p g)) e ∙ owner_same x l p g ix.size code place
+          | yes e ↦ ap (owner_in (with_place x l p g)) e ∙ get_or-set_same x.owner p g 0 (let s = ix.owners in omega arith)
               ∙ sym (inside γ n (omega arith) (omega arith))
-          | no e ↦ owner_other x l p g ix.size code place (literals_at γ.at + j) e ∙ ix.owner γ n j jt (omega arith)
+          | no e ↦ get_or-set_other x.owner p (literals_at γ.at + j) g 0 e ∙ ix.owner γ n j jt (omega arith)
         ];
         head = λ γ n less. elim (ℕ_discrete γ.at p) [
           | yes e ↦ absurd (let q = inside γ n (omega arith) (omega arith) in omega arith)
-          | no e ↦ owner_other x l p g ix.size code place γ.at e ∙ ix.head γ n (omega arith)
+          | no e ↦ get_or-set_other x.owner p γ.at g 0 e ∙ ix.head γ n (omega arith)
         ];
       }
     where
@@ -197,7 +153,7 @@ module _ (t : List ℕ) (table : Table t) where
           }
 
   -- all of a record's words before its first group are passed
-  pub indexed_record : (p h : ℕ) (x : List ℕ) → Cursor t p h 0 → Indexed (placed_of t) x p → Indexed (placed_of t) x (body_at p)
+  pub indexed_record : (p h : ℕ) (x : Index) → Cursor t p h 0 → Indexed (placed_of t) x p → Indexed (placed_of t) x (body_at p)
   indexed_record p h x c ix =
       let before : ((γ : Placed) → γ ∈ placed_of t → (end_of γ ≤ p) ⊎ (body_at p ≤ γ.at)) = record_alone t p h c in
       indexed_on (placed_of t) x p (body_at p) ix (omega arith)
@@ -205,12 +161,14 @@ module _ (t : List ℕ) (table : Table t) where
       (λ (e : body_at p ≤ a.group.at). absurd (omega (arith, a.place))) (before a.group a.one))
       (λ γ m k. ⊎_elim (λ (e : end_of γ ≤ p). omega arith) (λ (e : body_at p ≤ γ.at). absurd (omega arith)) (before γ m))
 
-  pub indexed_ends : (p : ℕ) (x : List ℕ) → length t ≤ p → Indexed (placed_of t) x p → IndexOf t x
+  pub indexed_ends : (p : ℕ) (x : Index) → length t ≤ p → Indexed (placed_of t) x p → IndexOf t x
   indexed_ends p x le ix =
       record {
         table = table;
         indexed = record {
-          size = ix.size;
+          lasts = ix.lasts;
+          earliers = ix.earliers;
+          owners = ix.owners;
           last = λ l lt.
               let w = ix.last l lt in
               record {
@@ -247,18 +205,18 @@ module _ (t : List ℕ) (table : Table t) (g h m : ℕ) (c : Cursor t g h (suc m
       subst⁻¹ (λ (x : ℕ). x < 1024) (front.words.literal i k)
       (code_below t table (placed h g front.literals) front.one (get_or front.literals i 0) (nth_member front.literals i k))
 
-  pub group_starts : (x x' : List ℕ) → Indexed (placed_of t) x g → x' ≡ with_owner x g h → Indexed (placed_of t) x' (literals_at g + 0)
+  pub group_starts : (x x' : Index) → Indexed (placed_of t) x g → x' ≡ with_owner x g h → Indexed (placed_of t) x' (literals_at g + 0)
   group_starts x x' ix e =
-      subst⁻¹ (λ (u : List ℕ). Indexed (placed_of t) u (literals_at g + 0)) e
+      subst⁻¹ (λ (u : Index). Indexed (placed_of t) u (literals_at g + 0)) e
       (subst (Indexed (placed_of t) (with_owner x g h)) (omega arith) (indexed_group t table g h m x front ix))
 
-  pub literal_turn : (i l : ℕ) (x x' : List ℕ) → i < get_or t g 0 → l ≡ get_or t (literals_at g + i) 0 → Indexed (placed_of t) x (literals_at g + i)
+  pub literal_turn : (i l : ℕ) (x x' : Index) → i < get_or t g 0 → l ≡ get_or t (literals_at g + i) 0 → Indexed (placed_of t) x (literals_at g + i)
       → x' ≡ with_place x l (literals_at g + i) g → Indexed (placed_of t) x' (literals_at g + (i + 1))
   literal_turn i l x x' lt e ix e' =
       let k : i < length front.literals = (let s = size_is in omega arith) in
       let q : l ≡ get_or front.literals i 0 = e ∙ front.words.literal i k in
       let code : get_or front.literals i 0 < 1024 = subst (λ (y : ℕ). y < 1024) (front.words.literal i k) (code_small i lt) in
-      subst⁻¹ (λ (u : List ℕ). Indexed (placed_of t) u (literals_at g + (i + 1))) (e' ∙ ap (λ (y : ℕ). with_place x y (literals_at g + i) g) q)
+      subst⁻¹ (λ (u : Index). Indexed (placed_of t) u (literals_at g + (i + 1))) (e' ∙ ap (λ (y : ℕ). with_place x y (literals_at g + i) g) q)
       (subst (Indexed (placed_of t) (with_place x (get_or front.literals i 0) (literals_at g + i) g)) (omega arith)
       (indexed_literal t table g h m i x front k code ix))
 
@@ -312,15 +270,6 @@ unfolding with_fact
 length_with_fact f h zero = length_put_in f h
 length_with_fact f h (suc m) = refl
 
-pub a_fact : (f : List ℕ) (h m : ℕ) → m ≡ 0 → put_in f h ≡ with_fact f h m
-unfolding with_fact
-a_fact f h m e = sym (ap (with_fact f h) e)
-
-pub no_fact : (f : List ℕ) (h m : ℕ) → (m ≡ 0 → ⊥) → f ≡ with_fact f h m
-unfolding with_fact
-no_fact f h zero n = absurd (n refl)
-no_fact f h (suc m) n = refl
-
 -- the facts of a record more
 module _ (t : List ℕ) (f : List ℕ) (p next : ℕ) (ρ : Rule) (split : rules_of (drop p t) ≡ ρ ∷ rules_of (drop next t))
     (heads : HeadsBelow 512 (rules_of t)) where
@@ -347,7 +296,7 @@ module _ (t : List ℕ) (f : List ℕ) (p next : ℕ) (ρ : Rule) (split : rules
       )
       by l zero e = (
         ⊎_elim (λ (h : T (member (put_in f ρ.head) l)). elim (ℕ_discrete l ρ.head) [
-          | yes q ↦ (to.facts l).0 (inr (record { rule = ρ; one = rw split (Memᴰ.head refl); head = sym q; fact = nil ρ.groups e }))
+          | yes q ↦ (to.facts l).0 (inr (record { rule = ρ; one = rw split (Memᴰ.head refl); head = sym q; fact = nil_from_length ρ.groups e }))
           | no n ↦ (to.facts l).0 (inl (subst T (member_put_in_other f ρ.head l n) h))
         ]) (λ k. (to.facts l).0 (inr (later l k))),
         λ k. ⊎_elim (λ (h : T (member f l)). inl (kept l h)) (λ (j : FactIn (rules_of (drop p t)) l).
@@ -356,10 +305,6 @@ module _ (t : List ℕ) (f : List ℕ) (p next : ℕ) (ρ : Rule) (split : rules
             ((to.facts l).1 k),
       )
         where
-          nil : (βs : List (List ℕ)) → length βs ≡ 0 → βs ≡ []
-          nil [] e = refl
-          nil (β ∷ βs) e = absurd (omega arith)
-
           itself : T (member (put_in f ρ.head) ρ.head)
           itself = true→T _ (member_put_in_same f ρ.head (let s = to.row in let k = heads ρ (to.rules ρ (rw split
               (Memᴰ.head refl))) in omega arith))
@@ -380,19 +325,33 @@ facts_end t f p le to =
     }
 
 -- a record is gone through
-module _ (t : List ℕ) (table : Table t) (at : ℕ) (inside : at < length t) (x f : List ℕ) (to : IndexedTo t x f at)
+module _ (t : List ℕ) (table : Table t) (at : ℕ) (inside : at < length t) (x : Index) (to : IndexedTo t x at)
     (head m : ℕ) (head_is : head ≡ get_or t at 0) (many_is : m ≡ get_or t (groups_at at) 0) where
   pub record_comes : Cursor t (body_at at) head m
   record_comes = rw (head_is, many_is) (cursor_record t at 0 to.cursor inside).1
 
-  pub record_turn : (next : ℕ) (x' f' : List ℕ) → f' ≡ with_fact f head m → Cursor t next head 0 → Indexed (placed_of t) x' next
-      → drop next t ≡ drop_groups m (drop (body_at at) t) → IndexedTo t x' f' next
-  record_turn next x' f' ef c ix e =
+  -- the index with the record's fact has all that the index had
+  pub with_fact_indexed : (x' : Index) → x' ≡ with_fact_in x head m → Indexed (placed_of t) x' (body_at at)
+  with_fact_indexed x' e =
+      let ix = indexed_record t table at 0 x to.cursor to.indexed in
+      subst⁻¹ (λ (y : Index). Indexed (placed_of t) y (body_at at)) e (record {
+        lasts = ix.lasts;
+        earliers = ix.earliers;
+        owners = ix.owners;
+        last = ix.last;
+        earlier = ix.earlier;
+        owner = ix.owner;
+        head = ix.head;
+      })
+
+  pub record_turn : (next : ℕ) (x' : Index) → x'.facts ≡ with_fact x.facts head m → Cursor t next head 0 → Indexed (placed_of t) x' next
+      → drop next t ≡ drop_groups m (drop (body_at at) t) → IndexedTo t x' next
+  record_turn next x' ef c ix e =
       record {
         cursor = cursor_anew t next head c;
         indexed = ix;
-        facts = subst⁻¹ (λ (u : List ℕ). FactsTo t u next) (ef ∙ ap (λ (h : ℕ). with_fact f h m) head_is)
-            (facts_go_on t f at next
+        facts = subst⁻¹ (λ (u : List ℕ). FactsTo t u next) (ef ∙ ap (λ (h : ℕ). with_fact x.facts h m) head_is)
+            (facts_go_on t x.facts at next
             (record { head = get_or t at 0; groups = take_groups (get_or t (groups_at at) 0) (drop (body_at at) t) })
             (rules_at t at next (cursor_record t at 0 to.cursor inside).0 (e ∙ ap (λ (n : ℕ). drop_groups n (drop (body_at at) t)) many_is))
             table.within.heads_below_lem m
@@ -400,10 +359,7 @@ module _ (t : List ℕ) (table : Table t) (at : ℕ) (inside : at < length t) (x
             ∙ record_comes.many) to.facts);
       }
 
-pub to_starts : (t : List ℕ) → Table t → (x f : List ℕ) → x ≡ replicate 17408 0 → f ≡ replicate 16 0 → IndexedTo t x f 0
-to_starts t table x f ex ef =
-    record {
-      cursor = cursor_starts t table;
-      indexed = subst⁻¹ (λ (u : List ℕ). Indexed (placed_of t) u 0) ex (indexed_starts (placed_of t));
-      facts = subst⁻¹ (λ (u : List ℕ). FactsTo t u 0) ef (facts_start t);
-    }
+pub to_starts : (t : List ℕ) → Table t → (x : Index) → x ≡ empty → IndexedTo t x 0
+to_starts t table x e =
+    subst⁻¹ (λ (y : Index). IndexedTo t y 0) e
+    (record { cursor = cursor_starts t table; indexed = indexed_starts (placed_of t); facts = facts_start t })

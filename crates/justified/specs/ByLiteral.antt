@@ -1,15 +1,22 @@
--- Stage: lines kept by literal: rank, head code of the rule and group number of literal l stand from place 3 × l on.
-use Rattle.std.specs.Prelude.{List, ℕ, ◌+◌, ◌*◌, get_or, set}
+-- Stage: lines kept by literal: of each literal its rank, the head code of the rule that its line names, and the group's number.
+use Rattle.std.specs.Prelude.{List, ℕ, get_or, set}
+use Rattle.justified.specs.declared.Line.{Line}
 
-abbrev pub rank_in : List ℕ → ℕ → ℕ
-rank_in lines l = get_or lines (3 * l) 0
+abbrev pub no_line : Line
+no_line = record { rank = 0; head = 0; group = 0 }
 
-abbrev pub head_in : List ℕ → ℕ → ℕ
-head_in lines l = get_or lines (3 * l + 1) 0
+abbrev pub line_in : List Line → ℕ → Line
+line_in lines l = get_or lines l no_line
 
-abbrev pub group_in : List ℕ → ℕ → ℕ
-group_in lines l = get_or lines (3 * l + 2) 0
+abbrev pub rank_in : List Line → ℕ → ℕ
+rank_in lines l = (line_in lines l).rank
+
+abbrev pub head_in : List Line → ℕ → ℕ
+head_in lines l = (line_in lines l).head
+
+abbrev pub group_in : List Line → ℕ → ℕ
+group_in lines l = (line_in lines l).group
 
 -- with a line of literal l
-abbrev pub with_line_of : List ℕ → ℕ → ℕ → ℕ → ℕ → List ℕ
-with_line_of lines l r h g = set (set (set lines (3 * l) r) (3 * l + 1) h) (3 * l + 2) g
+abbrev pub with_line_of : List Line → ℕ → ℕ → ℕ → ℕ → List Line
+with_line_of lines l r h g = set lines l (record { rank = r; head = h; group = g })

@@ -12,21 +12,20 @@ use Rattle.words.proofs.Places.{RecordAt, record_at, some_record}
 use Rattle.words.proofs.Reading.{take_groups_groups_words, drop_groups_groups_words, length_take_groups, whole_groups}
 use Rattle.words.specs.Check.{AcceptedTable}
 use Rattle.words.proofs.Laws.{words_of_records_of, accepted_heads, accepted_atoms}
-use Rattle.least.specs.declared.WhichGroup.{WhichGroup}
-use Rattle.least.specs.declared.WhichGroup.TheVariants.{Number}
 use Rattle.least.specs.Groups.{WhichAllows, is_a_fact}
 use Rattle.least.specs.Walk.{GroupsSkipped, which_from, Records}
 use Rattle.least.proofs.Groups.{walk_allowed}
+use Rattle.std.specs.Prelude.{Some, Option}
 
 -- the record at a place is a fact, told by its m, or its body was walked through
 pub fact_there : (S : ℕ → Bool) (t : List ℕ) (at m : ℕ) → body_at at ≤ length t → m ≡ groups_in t at → m ≡ 0
-    → WhichAllows S (rule_at t at).groups (Number 0) × GroupsSkipped t (body_at at) (groups_in t at) (body_at at)
+    → WhichAllows S (rule_at t at).groups (Some 0) × GroupsSkipped t (body_at at) (groups_in t at) (body_at at)
 unfolding take_groups drop_groups
 fact_there S t at m le em e =
     let z : groups_in t at ≡ 0 = sym em ∙ e in
     (is_a_fact (rw z refl), record { after = rw z refl; inside = le; not_before = omega arith })
 
-pub body_there : (S : ℕ → Bool) (t : List ℕ) (at m : ℕ) (w : WhichGroup) (next : ℕ)
+pub body_there : (S : ℕ → Bool) (t : List ℕ) (at m : ℕ) (w : Option ℕ) (next : ℕ)
     → m ≡ groups_in t at → WholeGroups (groups_in t at) (body_from t at) → (m ≡ 0 → ⊥)
     → w ≡ which_from S 1 (take_groups m (body_from t at)) → GroupsSkipped t (body_at at) m next
     → WhichAllows S (rule_at t at).groups w × GroupsSkipped t (body_at at) (groups_in t at) next

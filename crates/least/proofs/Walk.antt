@@ -6,39 +6,19 @@ use Prim.Native.Nat.{ℕ, zero, suc, ◌+◌, ◌-◌, ◌≤◌, ◌<◌}
 use native.Mathlib.Omega.{arith}
 use native.Mathlib.Numerals.{add-one}
 use lib.ListN.{length, get_or, take, drop, length-drop}
-use lib.Seq.{drop-cons, drop-drop}
+use lib.Seq.{drop-drop}
 use Rattle.words.specs.RecordAt.{WholeGroups}
 use Rattle.words.specs.Layout.{take_groups, drop_groups, literals_at}
 use Rattle.words.proofs.Places.{word_at}
 use Rattle.paper.specs.Fires.{wholly}
-use Rattle.least.specs.declared.WhichGroup.TheVariants.{Number, None}
 use Rattle.least.specs.Walk.{GroupsSkipped, which_from}
+use Rattle.std.specs.Prelude.{Some, None}
+use Rattle.std.specs.List.{list_all}
 
--- the literal at i is looked at: the group holds if it is in the set and the rest holds
-wholly_cons : (S : ℕ → Bool) (t : List ℕ) (i k : ℕ) → i < length t
-    → wholly S (take (suc k) (drop i t)) ≡ (S (get_or t i 0) && wholly S (take k (drop (i + 1) t)))
-wholly_cons S t i k h = rw (add-one i, drop-cons t i 0 h)
-
-pub group_goes_on : (S : ℕ → Bool) (t : List ℕ) (at k i w : ℕ) (b : Bool)
-    → at + k ≤ length t → i < k → w ≡ get_or t (at + i) 0 → b ≡ S w → b ≡ true
-    → {whole : Bool} → wholly S (take (k - i) (drop (at + i) t)) ≡ whole → wholly S (take (k - (i + 1)) (drop (at + (i + 1)) t)) ≡ whole
-group_goes_on S t at k i w b le lt ew eb e {whole} inv =
-    let s : S (get_or t (at + i) 0) ≡ true = sym (ap S ew) ∙ sym eb ∙ e in
-    let n : k - i ≡ suc (k - (i + 1)) = omega arith in
-    let p : at + (i + 1) ≡ at + i + 1 = omega arith in
-    rw p (sym (wholly_cons S t (at + i) (k - (i + 1)) (omega arith) ∙ rw s) ∙ rw (← n) inv)
-
-pub group_stops : (S : ℕ → Bool) (t : List ℕ) (at k i w : ℕ) (b : Bool)
-    → at + k ≤ length t → i < k → w ≡ get_or t (at + i) 0 → b ≡ S w → b ≡ false
-    → {whole : Bool} → wholly S (take (k - i) (drop (at + i) t)) ≡ whole → false ≡ whole
-group_stops S t at k i w b le lt ew eb e {whole} inv =
-    let s : S (get_or t (at + i) 0) ≡ false = sym (ap S ew) ∙ sym eb ∙ e in
-    let n : k - i ≡ suc (k - (i + 1)) = omega arith in
-    sym (wholly_cons S t (at + i) (k - (i + 1)) (omega arith) ∙ rw s) ∙ rw (← n) inv
-
-pub group_ends : (S : ℕ → Bool) (t : List ℕ) (at k i : ℕ) → k ≤ i → {whole : Bool}
-    → wholly S (take (k - i) (drop (at + i) t)) ≡ whole → true ≡ whole
-group_ends S t at k i h inv = let n : k - i ≡ 0 = omega arith in (rw n) ∙ inv
+-- all of a group, as the library has it
+pub all_wholly : (S : ℕ → Bool) (β : List ℕ) → list_all S β ≡ wholly S β
+all_wholly S [] = refl
+all_wholly S (l ∷ β) = ap (λ (b : Bool). S l && b) (all_wholly S β)
 
 -- one group passed, the others still to come
 pub record Turned (t : List ℕ) (at left k : ℕ) : Type 0 where
@@ -110,7 +90,7 @@ unfolding which_from
 which_goes_on S t at left k g b q eb e = rw (q.groups, sym eb, e, add-one g) refl
 
 pub which_ends : (S : ℕ → Bool) (t : List ℕ) (at left k g : ℕ) (b : Bool) → Turned t at left k
-    → b ≡ wholly S (take k (drop (literals_at at) t)) → b ≡ true → Number g ≡ which_from S g (take_groups left (drop at t))
+    → b ≡ wholly S (take k (drop (literals_at at) t)) → b ≡ true → Some g ≡ which_from S g (take_groups left (drop at t))
 unfolding which_from
 which_ends S t at left k g b q eb e = rw (q.groups, sym eb, e) refl
 

@@ -1,41 +1,25 @@
 #![tactic(auto)]
 
-ghost use Rattle.std.specs.Prelude.{◌≡◌, ◌+◌, ◌≤◌, length, take, drop};
+ghost use Rattle.std.specs.Prelude.{◌≡◌, ◌+◌, ◌≤◌, length, drop};
+ghost use Rattle.std.specs.List.{list_all};
 ghost use Rattle.bits.specs.Sets.{member};
-ghost use Rattle.paper.specs.Fires.{wholly};
 ghost use Rattle.least.specs.Groups.{WhichAllows};
 ghost use Rattle.least.specs.Walk.{GroupsSkipped, which_from};
 ghost use Rattle.words.specs.Layout.{body_at, take_groups};
 ghost use Rattle.words.specs.RecordAt.{groups_in, body_from, rule_at, WholeGroups};
 
-// Which group of a body is wholly in a set: the number of the lowest, counted from 1, 0 for a fact, or none.
-#[derive(Clone, Copy)]
-pub enum WhichGroup {
-    Number(usize),
-    None,
-}
-
-// Which group of a body, and where the next record begins.
+// Which group of a body is wholly in a set, and where the next record begins. The group is the lowest, counted from 1; 0 is a fact.
 #[derive(Clone, Copy)]
 pub struct Body {
-    pub which: WhichGroup,
+    pub which: Option<usize>,
     pub next: usize,
 }
 
-// Are all `k` literals from `at` on in the set?
-fn group_in(table: &[u16], set: &[u64], at: usize, k: usize) -> bool
-    requires { at + k ≤ length table.now }
-    ensures { result ≡ wholly (member set.now) (take k (drop at table.now)) }
+// Are all literals of a group in the set?
+fn group_in(group: &[u16], set: &[u64]) -> bool
+    ensures { result ≡ list_all (member set.now) group.now }
 {
-    let mut i: usize = 0;
-    while i < k {
-        if bits::has(set, words::word_inside(table, at + i)) {
-            i += 1;
-        } else {
-            return false;
-        }
-    }
-    true
+    group.iter().all(|l| bits::has(set, usize::from(*l)))
 }
 
 // Where the `m` groups from `first` on end.
@@ -44,11 +28,8 @@ pub fn skip_groups(table: &[u16], first: usize, m: usize) -> usize
     ensures { GroupsSkipped table.now first m result }
 {
     let mut at = first;
-    let mut left = m;
-    while 0 < left {
-        let k = words::word_inside(table, at);
-        at = at + words::LITERALS + k;
-        left -= 1;
+    for _ in 0..m {
+        at += words::LITERALS + words::word_inside(table, at);
     }
     at
 }
@@ -60,22 +41,19 @@ fn lowest_group(table: &[u16], set: &[u64], first: usize, m: usize) -> Body
     ensures groups_skipped { GroupsSkipped table.now first m result.next }
 {
     let mut at = first;
-    let mut left = m;
-    while 0 < left {
+    for g in 0..m {
         let k = words::word_inside(table, at);
         let literals = at + words::LITERALS;
         at = literals + k;
-        left -= 1;
-        if group_in(table, set, literals, k) {
-            let next = skip_groups(table, at, left);
+        if group_in(&table[literals..at], set) {
             return Body {
-                which: WhichGroup::Number(m - left),
-                next,
+                which: Some(g + 1),
+                next: skip_groups(table, at, m - (g + 1)),
             };
         }
     }
     Body {
-        which: WhichGroup::None,
+        which: None,
         next: at,
     }
 }
@@ -90,7 +68,7 @@ pub fn which_group(table: &[u16], set: &[u64], at: usize) -> Body
     let first = at + words::BODY;
     if m == 0 {
         return Body {
-            which: WhichGroup::Number(0),
+            which: Some(0),
             next: first,
         };
     }

@@ -6,14 +6,13 @@ use Prim.Native.Nat.{ℕ, ◌≤◌}
 use lib.Dec.{leb}
 use borrow.Author.Tests.{leb-true, not-true}
 use Rattle.refusal.specs.declared.Refusal.{Refusal}
-use Rattle.refusal.specs.declared.Checked.{Checked}
-use Rattle.refusal.specs.declared.Checked.TheVariants.{Accepted, Refused}
+use Rattle.refusal.specs.Checks.{Checked}
 use Rattle.refusal.proofs.Laws.{asking_accepted, refused≢accepted}
 use Rattle.reader.specs.declared.SheetLiteral.{SheetLiteral}
 use Rattle.literals.specs.declared.Counts.{Counts}
-use Rattle.literals.specs.declared.Taken.TheVariants.{On, Off}
 use Rattle.literals.specs.Literals.{fault_with, code_for}
 use Rattle.literals.specs.Putting.{atom_in, code_in, fault_by, fault_in, Put, Took}
+use Rattle.std.specs.Prelude.{Ok, Err}
 
 -- what a literal without a fault leaves
 pub record Allowed (names : ℕ) (repeated : Bool) (body words : ℕ) : Type 0 where
@@ -22,7 +21,7 @@ pub record Allowed (names : ℕ) (repeated : Bool) (body words : ℕ) : Type 0 w
   pub body_fits : body ≤ 64
   pub words_fit : words ≤ 8192
 
-pub faultless_allowed : (names : ℕ) (repeated : Bool) (body words p q : ℕ) → fault_with names repeated body words p q ≡ Accepted
+pub faultless_allowed : (names : ℕ) (repeated : Bool) (body words p q : ℕ) → fault_with names repeated body words p q ≡ Ok tt
     → Allowed names repeated body words
 unfolding fault_with
 faultless_allowed names repeated body words p q e =
@@ -45,14 +44,14 @@ module _ (s : List ℕ) (p : ℕ) (l : SheetLiteral) (k : Counts) (ws names head
   fault_is : fault_in s k ws names heads p l ≡ f
   fault_is = sym (fault ∙ ap₂ (λ (x y : ℕ). fault_by x y k ws heads p l) number code_is)
 
-  pub took_off : (x : Refusal) → f ≡ Refused x → Took s p l k ws names heads (Off x) ws names heads
+  pub took_off : (x : Refusal) → f ≡ Err x → Took s p l k ws names heads (Err x) ws names heads
   took_off x e = record {
     faultless = λ h. absurd (refused≢accepted x (sym e ∙ sym fault_is ∙ h));
-    faulty = λ y h. let same : Refused x ≡ Refused y = sym e ∙ sym fault_is ∙ h in (cc, refl, refl, refl);
+    faulty = λ y h. let same : Err x ≡ Err y = sym e ∙ sym fault_is ∙ h in (cc, refl, refl, refl);
   }
 
-  pub took_on : (ws' names' heads' : List ℕ) (k' : Counts) → f ≡ Accepted
-      → Put a c l k ws names heads k' ws' names' heads' → Took s p l k ws names heads (On k') ws' names' heads'
+  pub took_on : (ws' names' heads' : List ℕ) (k' : Counts) → f ≡ Ok tt
+      → Put a c l k ws names heads k' ws' names' heads' → Took s p l k ws names heads (Ok k') ws' names' heads'
   took_on ws' names' heads' k' e put = record {
     faultless = λ h. (
       k',

@@ -1,11 +1,9 @@
 -- Believed: what one literal of a sheet adds to names and records, and its faults.
-use Rattle.std.specs.Prelude.{List, [], ◌∷◌, ◌++◌, Bool, true, false, not, cond, ℕ, ◌+◌, leb, ltb, eqb, length}
+use Rattle.std.specs.Prelude.{List, [], ◌∷◌, ◌++◌, Bool, true, false, not, cond, ℕ, ◌+◌, leb, ltb, eqb, length, Ok}
 use Rattle.limits.specs.Limits.{most_atoms, most_words, most_in_body}
 use Rattle.paper.specs.Rules.{positive, negative}
 use Rattle.refusal.specs.Numbers.{too_many_names, second_rule, too_many_in_body, too_many_words}
-use Rattle.refusal.specs.declared.Checked.{Checked}
-use Rattle.refusal.specs.declared.Checked.TheVariants.{Accepted}
-use Rattle.refusal.specs.Checks.{asking}
+use Rattle.refusal.specs.Checks.{Checked, asking}
 use Rattle.words.specs.Layout.{TableRecord, body_at, after_one}
 use Rattle.reader.specs.declared.Role.{Role}
 use Rattle.reader.specs.declared.Role.TheVariants.{Head, First, Further}
@@ -105,7 +103,7 @@ fault_with names repeated body words p q =
     asking (leb names most_atoms) (too_many_names q)
     (asking (not repeated) (second_rule p)
     (asking (leb body most_in_body) (too_many_in_body p)
-    (asking (leb words most_words) (too_many_words p) Accepted)))
+    (asking (leb words most_words) (too_many_words p) (Ok tt))))
 
 unfoldable pub literal_fault : List ℕ → ℕ → Sofar → SheetLiteral → Checked
 literal_fault s p sofar l =

@@ -1,10 +1,9 @@
 -- Stage: one literal in the word and name buffers, as the code puts it there.
-use Rattle.std.specs.Prelude.{List, ◌≡◌, cond, ℕ, ◌+◌, ◌≤◌, ltb, length, get_or, set, take}
+use Rattle.std.specs.Prelude.{List, ◌≡◌, cond, ℕ, ◌+◌, ◌≤◌, ltb, length, get_or, set, take, Ok, Err, Result}
 use Rattle.limits.specs.Limits.{most_atoms, most_words}
 use Rattle.refusal.specs.declared.Refusal.{Refusal}
 use Rattle.bits.specs.Sets.{put_in, member}
-use Rattle.refusal.specs.declared.Checked.{Checked}
-use Rattle.refusal.specs.declared.Checked.TheVariants.{Accepted, Refused as Faulty}
+use Rattle.refusal.specs.Checks.{Checked}
 use Rattle.words.specs.Layout.{line_number_at, groups_at, body_at, literals_at, after_one}
 use Rattle.words.specs.RecordAt.{groups_in}
 use Rattle.reader.specs.declared.Role.{Role}
@@ -12,8 +11,6 @@ use Rattle.reader.specs.declared.Role.TheVariants.{Head, First, Further}
 use Rattle.reader.specs.declared.SheetLiteral.{SheetLiteral}
 use Rattle.names.specs.Names.{entry_for}
 use Rattle.literals.specs.declared.Counts.{Counts}
-use Rattle.literals.specs.declared.Taken.{Taken}
-use Rattle.literals.specs.declared.Taken.TheVariants.{On, Off}
 use Rattle.literals.specs.Literals.{words_for, atom_of, code_of, repeats, in_body, fault_with}
 
 -- the number of names with one whose number is a
@@ -79,7 +76,7 @@ pub record Put (a c : ℕ) (l : SheetLiteral) (k : Counts) (ws names heads : Lis
   pub heads_are : heads' ≡ put_head l.role c heads
 
 -- a literal at p has been put into the buffers; one with a fault leaves them as they were
-pub record Took (s : List ℕ) (p : ℕ) (l : SheetLiteral) (k : Counts) (ws names heads : List ℕ) (r : Taken) (ws' names' heads' : List ℕ) : Type 0 where
-  pub faultless : fault_in s k ws names heads p l ≡ Accepted
-      → (k' : Counts) × (r ≡ On k') × Put (atom_in s k names l) (code_in s k names l) l k ws names heads k' ws' names' heads'
-  pub faulty : (x : Refusal) → fault_in s k ws names heads p l ≡ Faulty x → (r ≡ Off x) × (ws' ≡ ws) × (names' ≡ names) × (heads' ≡ heads)
+pub record Took (s : List ℕ) (p : ℕ) (l : SheetLiteral) (k : Counts) (ws names heads : List ℕ) (r : Result Counts Refusal) (ws' names' heads' : List ℕ) : Type 0 where
+  pub faultless : fault_in s k ws names heads p l ≡ Ok tt
+      → (k' : Counts) × (r ≡ Ok k') × Put (atom_in s k names l) (code_in s k names l) l k ws names heads k' ws' names' heads'
+  pub faulty : (x : Refusal) → fault_in s k ws names heads p l ≡ Err x → (r ≡ Err x) × (ws' ≡ ws) × (names' ≡ names) × (heads' ≡ heads)

@@ -11,14 +11,7 @@ ghost use Rattle.literals.specs.Literals.{code_for, words_for, repeats, fault_wi
 ghost use Rattle.literals.specs.Putting.{names_with, put_words, put_name, put_head, counted, Room, body_in, fault_by, Put, Took};
 
 use reader::{Role, SheetLiteral};
-use refusal::{Checked, Refusal};
-
-// What taking a literal answers: the counts with it, or its fault.
-#[derive(Clone, Copy)]
-pub enum Taken {
-    On(Counts),
-    Off(Refusal),
-}
+use refusal::{Reason, Refusal};
 
 // The names and words so far, the line and the place of the last record, and the place of its last group.
 #[derive(Clone, Copy)]
@@ -39,22 +32,22 @@ fn fault_with(
     words: usize,
     place: usize,
     start: usize,
-) -> Checked
+) -> Result<(), Refusal>
     ensures { result ≡ fault_with names repeated body words place start }
 {
     if limits::MOST_ATOMS < names {
-        return refusal::refused(refusal::TOO_MANY_NAMES, start);
+        return refusal::refused(Reason::TooManyNames, start);
     }
     if repeated {
-        return refusal::refused(refusal::SECOND_RULE, place);
+        return refusal::refused(Reason::SecondRule, place);
     }
     if limits::MOST_IN_BODY < body {
-        return refusal::refused(refusal::TOO_MANY_IN_BODY, place);
+        return refusal::refused(Reason::TooManyInBody, place);
     }
     if limits::MOST_WORDS < words {
-        return refusal::refused(refusal::TOO_MANY_WORDS, place);
+        return refusal::refused(Reason::TooManyWords, place);
     }
-    Checked::Accepted
+    Ok(())
 }
 
 fn names_with(atom: usize, atoms: usize) -> usize
@@ -113,7 +106,7 @@ fn fault_of(
     code: usize,
     place: usize,
     l: SheetLiteral,
-) -> Checked
+) -> Result<(), Refusal>
     requires atoms_le_most_atoms { counts.atoms ≤ most_atoms }
     requires words_le_most_words { counts.words ≤ most_words }
     requires rule_bound { body_at counts.rule ≤ most_words }
@@ -273,7 +266,7 @@ pub fn take_literal(
     counts: Counts,
     place: usize,
     l: SheetLiteral,
-) -> Taken
+) -> Result<Counts, Refusal>
     requires room { Room counts words.old names.old }
     requires start_le_most_sheet_bytes { l.start ≤ most_sheet_bytes }
     requires len_le_most_name_bytes { l.len ≤ most_name_bytes }
@@ -281,8 +274,6 @@ pub fn take_literal(
 {
     let atom = names::number(sheet, names, counts.atoms, l.start, l.len);
     let code = code_for(l.negated, atom);
-    if let Checked::Refused(r) = fault_of(words, heads, counts, atom, code, place, l) {
-        return Taken::Off(r);
-    }
-    Taken::On(put_literal(words, names, heads, counts, atom, code, l))
+    fault_of(words, heads, counts, atom, code, place, l)?;
+    Ok(put_literal(words, names, heads, counts, atom, code, l))
 }

@@ -9,11 +9,7 @@ pub fn entry(names: &[u32], i: usize) -> usize
     ensures value { result ≡ get_or names.now i 0 }
     ensures upper_bound { result < 2 ^ 32 }
 {
-    if i < names.len() {
-        names[i] as usize
-    } else {
-        0
-    }
+    names.get(i).map_or(0, |&e| e as usize)
 }
 
 // Are the `n` bytes from `a` on those from `b` on?
@@ -22,12 +18,10 @@ fn same_bytes(sheet: &[u8], a: usize, b: usize, n: usize) -> bool
     requires n_bound_2 { b + n < 2 ^ 63 }
     ensures { result ≡ same_bytes (bytes_at sheet.now a n) (bytes_at sheet.now b n) }
 {
-    let mut i: usize = 0;
-    while i < n {
+    for i in 0..n {
         if reader::byte(sheet, a + i) != reader::byte(sheet, b + i) {
             return false;
         }
-        i += 1;
     }
     true
 }
@@ -70,10 +64,7 @@ fn same_fours(sheet: &[u8], a: usize, b: usize, n: usize) -> bool
     ensures { result ≡ same_bytes (bytes_at sheet.now a n) (bytes_at sheet.now b n) }
 {
     let last = n - 4;
-    if four(sheet, a) != four(sheet, b) {
-        return false;
-    }
-    four(sheet, a + last) == four(sheet, b + last)
+    four(sheet, a) == four(sheet, b) && four(sheet, a + last) == four(sheet, b + last)
 }
 
 // The same for eight bytes of the sheet or more: eight at a time, then the last eight.
@@ -83,14 +74,12 @@ fn same_eights(sheet: &[u8], a: usize, b: usize, n: usize) -> bool
     requires n_in_bounds_2 { b + n ≤ length sheet.now }
     ensures { result ≡ same_bytes (bytes_at sheet.now a n) (bytes_at sheet.now b n) }
 {
-    let last = n - 8;
-    let mut i: usize = 0;
-    while i < last {
-        if eight(sheet, a + i) != eight(sheet, b + i) {
+    for k in 0..(n - 1) / 8 {
+        if eight(sheet, a + 8 * k) != eight(sheet, b + 8 * k) {
             return false;
         }
-        i += 8;
     }
+    let last = n - 8;
     eight(sheet, a + last) == eight(sheet, b + last)
 }
 
@@ -100,13 +89,7 @@ fn same_name(sheet: &[u8], a: usize, b: usize, n: usize) -> bool
     requires n_bound_2 { b + n < 2 ^ 63 }
     ensures { result ≡ same_bytes (bytes_at sheet.now a n) (bytes_at sheet.now b n) }
 {
-    if n < 4 {
-        return same_bytes(sheet, a, b, n);
-    }
-    if sheet.len() < a + n {
-        return same_bytes(sheet, a, b, n);
-    }
-    if sheet.len() < b + n {
+    if n < 4 || sheet.len() < a + n || sheet.len() < b + n {
         return same_bytes(sheet, a, b, n);
     }
     if n < 8 {
@@ -121,11 +104,7 @@ fn has_name(sheet: &[u8], e: usize, start: usize, len: usize) -> bool
     requires len_bound { start + len < 2 ^ 63 }
     ensures { result ≡ same_bytes (name_of sheet.now e) (bytes_at sheet.now start len) }
 {
-    if e % 32 == len {
-        same_name(sheet, e / 32, start, len)
-    } else {
-        false
-    }
+    e % 32 == len && same_name(sheet, e / 32, start, len)
 }
 
 // The number of the first of `count` entries with the name of `len` bytes from `start` on; `count`, if none has it.
@@ -135,13 +114,10 @@ pub fn number(sheet: &[u8], names: &[u32], count: usize, start: usize, len: usiz
     ensures value { result ≡ number_in sheet.now (take count names.now) (bytes_at sheet.now start len) }
     ensures upper_bound { result ≤ count }
 {
-    let mut i: usize = 0;
-    while i < count {
-        let e = entry(names, i);
-        if has_name(sheet, e, start, len) {
+    for i in 0..count {
+        if has_name(sheet, entry(names, i), start, len) {
             return i;
         }
-        i += 1;
     }
     count
 }

@@ -1,10 +1,11 @@
 -- A literal's places gone through from the last to the first. Assumes nothing.
-use mathlib.Core.Bool.{Bool, true, false, not, cond, ◌&&◌, ◌||◌}
+use mathlib.Core.Bool.{Bool, true, false, not, cond, ◌&&◌, ◌||◌, or-false, and-false, or-true}
 use mathlib.Core.List.Memᴰ
 use mathlib.Core.List.{List, [], ◌∷◌}
 use mathlib.Core.Logic.{◌⊎◌, inl, inr, ⊎_elim}
 use mathlib.Core.Path.{◌≡◌, refl, sym, ap, ap₂, ◌∙◌, subst, subst⁻¹}
 use Prim.Native.Nat.{ℕ, suc, ◌+◌, ◌*◌, ◌≤◌, ◌<◌}
+use native.Mathlib.Numerals.{add-one}
 use native.Mathlib.Omega.{arith}
 use native.Mathlib.Decide.{ℕ_discrete}
 use lib.Dec.{T, eqb, ltb}
@@ -19,6 +20,7 @@ use Rattle.bits.specs.Sets.{member, put_in}
 use Rattle.bits.proofs.Laws.{member_put_in_same, member_put_in_other, length_put_in}
 use Rattle.words.specs.Layout.{literals_at}
 use Rattle.index.specs.Placed.{Placed, placed_of, LiteralAt}
+use Rattle.index.specs.declared.Index.{Index}
 use Rattle.index.specs.Index.{last_in, earlier_in, owner_in, Latest, IndexOf}
 use Rattle.index.proofs.Placed.{table_words, literal_word, literal_inside, nth_member, group_short, head_below, table_short}
 use Rattle.pending.specs.Pending.{Whole, CountsAre, Taken, with_one_more, with_whole}
@@ -35,7 +37,7 @@ abbrev pub walked : List ℕ → (ℕ → Bool) → ℕ → ℕ → ℕ → Bool
 walked t S l c q = S (get_or t q 0) || eqb (get_or t q 0) l && ltb c q
 
 -- the places of l after place c are counted
-pub record Walking (t x : List ℕ) (S : ℕ → Bool) (l : ℕ) (ready₀ : List ℕ) (c : ℕ) (ready counts : List ℕ) : Type 0 where
+pub record Walking (t : List ℕ) (x : Index) (S : ℕ → Bool) (l : ℕ) (ready₀ : List ℕ) (c : ℕ) (ready counts : List ℕ) : Type 0 where
   pub place : (c ≡ 0) ⊎ LiteralAt (placed_of t) l c
   pub room : length counts ≡ 8192
   pub each : (γ : Placed) → γ ∈ placed_of t
@@ -46,27 +48,12 @@ pub record Walking (t x : List ℕ) (S : ℕ → Bool) (l : ℕ) (ready₀ : Lis
       → Whole S γ ⊎ T (member ready γ.head)
   pub sound : (h : ℕ) → T (member ready h) → T (member ready₀ h) ⊎ ((γ : Placed) × (γ ∈ placed_of t) × (γ.head ≡ h) × Whole (S with l) γ)
 
-plus_one : (n : ℕ) → suc n ≡ n + 1
-plus_one n = omega arith
-
-or_false : (a : Bool) → (a || false) ≡ a
-or_false true = refl
-or_false false = refl
-
-and_false : (a : Bool) → (a && false) ≡ false
-and_false true = refl
-and_false false = refl
-
-or_true : (a : Bool) → (a || true) ≡ true
-or_true true = refl
-or_true false = refl
-
 -- a literal of a group, by its number in the group
 abbrev nth_at : (t : List ℕ) (γ : Placed) → γ ∈ placed_of t → (i : ℕ) → i < length γ.literals → LiteralAt (placed_of t) (get_or
     γ.literals i 0) (literals_at γ.at + i)
 nth_at t γ m i lt = record { group = γ; one = m; number = i; inside = lt; place = refl; literal = refl }
 
-module _ (t x : List ℕ) (ix : IndexOf t x) (S : ℕ → Bool) (l : ℕ) (new : T (not (S l))) where
+module _ (t : List ℕ) (x : Index) (ix : IndexOf t x) (S : ℕ → Bool) (l : ℕ) (new : T (not (S l))) where
   word_of : (γ : Placed) → γ ∈ placed_of t → (i : ℕ) → i < length γ.literals → get_or t (literals_at γ.at + i) 0 ≡ get_or γ.literals i 0
   word_of γ m i lt = (table_words t ix.table γ m).literal i lt
 
@@ -85,8 +72,8 @@ module _ (t x : List ℕ) (ix : IndexOf t x) (S : ℕ → Bool) (l : ℕ) (new :
             let a = at_l γ m i lt e in
             let le = late.none_after q a (literal_inside t ix.table l q a) in
             ap (λ (b : Bool). S (get_or t q 0) || eqb (get_or t q 0) l && b) (le-ltb c q le)
-            ∙ ap (λ (b : Bool). S (get_or t q 0) || b) (and_false (eqb (get_or t q 0) l)) ∙ or_false (S (get_or t q 0))
-        | no n ↦ ap (λ (b : Bool). S (get_or t q 0) || b && ltb c q) (ne_eqb (get_or t q 0) l n) ∙ or_false (S (get_or t q 0))
+            ∙ ap (λ (b : Bool). S (get_or t q 0) || b) (and-false (eqb (get_or t q 0) l)) ∙ or-false (S (get_or t q 0))
+        | no n ↦ ap (λ (b : Bool). S (get_or t q 0) || b && ltb c q) (ne_eqb (get_or t q 0) l n) ∙ or-false (S (get_or t q 0))
       ]
 
   end_walked : (c q : ℕ) → c ≡ 0 → 0 < q → walked t S l c q ≡ (S with l) (get_or t q 0)
@@ -112,7 +99,7 @@ module _ (t x : List ℕ) (ix : IndexOf t x) (S : ℕ → Bool) (l : ℕ) (new :
       elim (ℕ_discrete q c) [
         | yes e ↦
             let w : get_or t q 0 ≡ l = ap (λ (z : ℕ). get_or t z 0) e ∙ literal_word t ix.table l c a in
-            ap₂ (λ (b d : Bool). S y || b && d) (eq-eqb y l w) (lt-ltb (earlier_in x c) q (omega arith)) ∙ or_true (S y)
+            ap₂ (λ (b d : Bool). S y || b && d) (eq-eqb y l w) (lt-ltb (earlier_in x c) q (omega arith)) ∙ or-true (S y)
             ∙ sym (ap (λ (b : Bool). cond b true (walked t S l c q)) (eq-eqb q c e))
         | no n ↦ elim (ℕ_discrete y l) [
           | yes e ↦
@@ -193,7 +180,7 @@ module _ (t x : List ℕ) (ix : IndexOf t x) (S : ℕ → Bool) (l : ℕ) (new :
     c_new : walked t S l c c ≡ false
     c_new =
         ap (λ (b : Bool). S (get_or t c 0) || eqb (get_or t c 0) l && b) (le-ltb c c (omega arith))
-        ∙ ap (λ (b : Bool). S (get_or t c 0) || b) (and_false (eqb (get_or t c 0) l)) ∙ or_false (S (get_or t c 0))
+        ∙ ap (λ (b : Bool). S (get_or t c 0) || b) (and-false (eqb (get_or t c 0) l)) ∙ or-false (S (get_or t c 0))
         ∙ ap S (literal_word t ix.table l c here) ∙ not→false (S l) new
 
     -- the counted places of a group at g
@@ -221,7 +208,7 @@ module _ (t x : List ℕ) (ix : IndexOf t x) (S : ℕ → Bool) (l : ℕ) (new :
           (λ i lt. step_walked c here γ m i lt ∙ ap (λ (b : Bool). cond b true (walked t S l c (literals_at γ.at + i))) (same_number i))
           ∙ count_with (length γ.literals) (λ i. walked t S l c (literals_at γ.at + i)) here.number number_inside
           (subst (λ (q : ℕ). T (not (walked t S l c q))) place_is (Rattle.sets.proofs.Tests.false→not _ c_new))
-          ∙ ap suc (sym (w.each γ m) ∙ ap (λ (q : ℕ). get_or counts q 0) at_g) ∙ plus_one (get_or counts g 0)
+          ∙ ap suc (sym (w.each γ m) ∙ ap (λ (q : ℕ). get_or counts q 0) at_g) ∙ sym (add-one (get_or counts g 0))
 
     pub few : get_or counts g 0 < 64
     few =
@@ -345,7 +332,7 @@ module _ (t x : List ℕ) (ix : IndexOf t x) (S : ℕ → Bool) (l : ℕ) (new :
             }
 
 -- the last place of a group puts its head into the row, and another place does not
-module _ (t x counts ready : List ℕ) (g k : ℕ) (inside : g < length counts) (k-is : k ≡ get_or t g 0) where
+module _ (t : List ℕ) (x : Index) (counts ready : List ℕ) (g k : ℕ) (inside : g < length counts) (k-is : k ≡ get_or t g 0) where
   now_is : get_or (with_one_more counts g) g 0 ≡ get_or counts g 0 + 1
   now_is = get_or-set_same counts g (get_or counts g 0 + 1) 0 inside
 

@@ -1,5 +1,5 @@
 -- Stage: taking one pending literal after the other: how much of each group is taken, and what is due.
-use Rattle.std.specs.Prelude.{Bool, true, false, not, cond, ◌||◌, List, ◌⊎◌, ◌↔◌, ◌≡◌, ℕ, ◌+◌, ◌*◌, ◌-◌, ◌<◌, T, eqb, length, get_or, set}
+use Rattle.std.specs.Prelude.{Bool, true, false, not, cond, ◌||◌, List, ◌⊎◌, ◌↔◌, ◌≡◌, ℕ, ◌+◌, ◌*◌, ◌-◌, ◌<◌, T, eqb, length, get_or, set, replicate}
 use Rattle.limits.specs.Limits.{most_codes}
 use Rattle.paper.specs.Marking.{Marks, Least, IsClean}
 use Rattle.paper.specs.Rules.{atom, positive, negative}
@@ -7,7 +7,9 @@ use Rattle.sets.specs.Sets.{◌∈◌, ◌with◌, count}
 use Rattle.bits.specs.Sets.{member, put_in}
 use Rattle.words.specs.Layout.{rules_of, literals_at}
 use Rattle.index.specs.Placed.{Placed, placed_of}
+use Rattle.index.specs.declared.Index.{Index}
 use Rattle.index.specs.Index.{owner_in, FactIn}
+use Rattle.pending.specs.declared.Taking.{Taking}
 
 -- all literals of a group are in the set
 abbrev pub Whole : (ℕ → Bool) → Placed → Type 0
@@ -32,55 +34,58 @@ abbrev pub with_one_more : List ℕ → ℕ → List ℕ
 with_one_more counts g = set counts g (get_or counts g 0 + 1)
 
 -- the head of a group goes into the row if all its places are counted
-unfoldable pub with_whole : List ℕ → List ℕ → List ℕ → ℕ → List ℕ → List ℕ
+unfoldable pub with_whole : List ℕ → Index → List ℕ → ℕ → List ℕ → List ℕ
 with_whole t x counts g ready = cond (eqb (get_or counts g 0) (get_or t g 0)) (put_in ready (owner_in x g)) ready
 
+-- nothing is taken, and nothing counted
+abbrev pub begun : List ℕ → Taking
+begun ready = record { taken = replicate 16 0; ready = ready; counts = replicate 8192 0 }
+
 -- a literal that is pending, taken or shut out
-abbrev pub due : List ℕ → List ℕ → List ℕ → ℕ → Bool
-due ready taken shut h = member ready h || (member taken h || member shut h)
+abbrev pub due : Taking → List ℕ → ℕ → Bool
+due p shut h = member p.ready h || (member p.taken h || member shut h)
 
 -- taken literals are counted, and the head of each fact and of each group that is wholly taken is due
-pub record Working (t taken ready counts shut : List ℕ) : Type 0 where
-  pub taken_row : length taken ≡ 16
-  pub ready_row : length ready ≡ 16
-  pub counted : CountsAre t (member taken) counts
-  pub facts : (h : ℕ) → FactIn (rules_of t) h → T (due ready taken shut h)
-  pub groups : (γ : Placed) → γ ∈ placed_of t → Whole (member taken) γ → T (due ready taken shut γ.head)
+pub record Working (t : List ℕ) (p : Taking) (shut : List ℕ) : Type 0 where
+  pub taken_row : length p.taken ≡ 16
+  pub ready_row : length p.ready ≡ 16
+  pub counted : CountsAre t (member p.taken) p.counts
+  pub facts : (h : ℕ) → FactIn (rules_of t) h → T (due p shut h)
+  pub groups : (γ : Placed) → γ ∈ placed_of t → Whole (member p.taken) γ → T (due p shut γ.head)
 
 -- the least set with the taken literals and the pending ones that are not shut out, and with the heads that are not shut out
-abbrev pub LeastOf : List ℕ → List ℕ → List ℕ → List ℕ → ℕ → Type 0
-LeastOf t taken ready shut =
-    Least (rules_of t) (λ x. T (member taken x) ⊎ (T (member ready x) × T (not (member shut x)))) (λ x. T (not (member shut x)))
+abbrev pub LeastOf : List ℕ → Taking → List ℕ → ℕ → Type 0
+LeastOf t p shut =
+    Least (rules_of t) (λ x. T (member p.taken x) ⊎ (T (member p.ready x) × T (not (member shut x)))) (λ x. T (not (member shut x)))
 
--- on the way from taken and ready to that set: nothing is lost, and nothing is outside
-pub record Closing (t taken ready shut taken' ready' : List ℕ) : Type 0 where
-  pub kept : (l : ℕ) → T (member taken l) → T (member taken' l)
-  pub still_due : (l : ℕ) → T (member ready l) → T (due ready' taken' shut l)
-  pub inside : (l : ℕ) → T (member taken' l) → LeastOf t taken ready shut l
-  pub inside_ready : (l : ℕ) → T (member ready' l) → T (not (member shut l)) → LeastOf t taken ready shut l
+-- on the way from p to that set: nothing is lost, and nothing is outside
+pub record Closing (t : List ℕ) (p : Taking) (shut : List ℕ) (p' : Taking) : Type 0 where
+  pub kept : (l : ℕ) → T (member p.taken l) → T (member p'.taken l)
+  pub still_due : (l : ℕ) → T (member p.ready l) → T (due p' shut l)
+  pub inside : (l : ℕ) → T (member p'.taken l) → LeastOf t p shut l
+  pub inside_ready : (l : ℕ) → T (member p'.ready l) → T (not (member shut l)) → LeastOf t p shut l
 
 -- how much is left to take, and to look at
-abbrev pub left : List ℕ → List ℕ → ℕ
-left taken ready = 1025 * (1024 - count most_codes (member taken)) + count most_codes (member ready)
+abbrev pub left : Taking → ℕ
+left p = 1025 * (1024 - count most_codes (member p.taken)) + count most_codes (member p.ready)
 
 -- a literal was looked at: it is taken or shut out and is left alone, or it is taken up
-pub data LookedAt (t taken ready counts shut : List ℕ) (l : ℕ) : List ℕ → List ℕ → List ℕ → Type 0 where
-  left_alone : T (member taken l || member shut l) → LookedAt t taken ready counts shut l taken ready counts
-  taken_up : {ready' counts' : List ℕ} → T (not (member taken l || member shut l)) → Taken t (member taken) l ready ready' counts'
-      → LookedAt t taken ready counts shut l (put_in taken l) ready' counts'
+pub data LookedAt (t : List ℕ) (p : Taking) (shut : List ℕ) (l : ℕ) : Taking → Type 0 where
+  left_alone : T (member p.taken l || member shut l) → LookedAt t p shut l p
+  taken_up : {p' : Taking} → T (not (member p.taken l || member shut l)) → p'.taken ≡ put_in p.taken l
+      → Taken t (member p.taken) l p.ready p'.ready p'.counts → LookedAt t p shut l p'
 
--- one pending literal was looked at, or there was none
-pub record Stepped (t taken ready shut taken' ready' counts' : List ℕ) (one : Bool) : Type 0 where
-  pub working : Working t taken' ready' counts' shut
-  pub closing : (T₀ R₀ : List ℕ) → Closing t T₀ R₀ shut taken ready → Closing t T₀ R₀ shut taken' ready'
-  pub less : one ≡ true → left taken' ready' < left taken ready
-  pub ended : one ≡ false → (taken' ≡ taken) × (ready' ≡ ready) × ((l : ℕ) → member ready l ≡ false)
+-- one pending literal was looked at
+pub record Stepped (t : List ℕ) (p : Taking) (shut : List ℕ) (p' : Taking) : Type 0 where
+  pub working : Working t p' shut
+  pub closing : (p₀ : Taking) → Closing t p₀ shut p → Closing t p₀ shut p'
+  pub less : left p' < left p
 
 -- the set was closed, and nothing is pending
-pub record Closed (t taken ready shut taken' ready' counts' : List ℕ) : Type 0 where
-  pub working : Working t taken' ready' counts' shut
-  pub none_ready : (l : ℕ) → member ready' l ≡ false
-  pub least : (l : ℕ) → T (member taken' l) ↔ LeastOf t taken ready shut l
+pub record Closed (t : List ℕ) (p : Taking) (shut : List ℕ) (p' : Taking) : Type 0 where
+  pub working : Working t p' shut
+  pub none_ready : (l : ℕ) → member p'.ready l ≡ false
+  pub least : (l : ℕ) → T (member p'.taken l) ↔ LeastOf t p shut l
 
 -- the row has the literals of the marked atoms
 abbrev pub PairsOf : List ℕ → Marks → Type 0

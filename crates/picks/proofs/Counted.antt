@@ -5,7 +5,6 @@ use mathlib.Core.Path.{◌≡◌, refl, sym, ap, ◌∙◌}
 use Prim.Native.Nat.{ℕ, ◌+◌}
 use native.Mathlib.Omega.{arith}
 use lib.ListN.{length}
-use Rattle.refusal.specs.declared.Checked.TheVariants.{Accepted}
 use Rattle.words.specs.Check.{AcceptedTable}
 use Rattle.words.specs.Layout.{rules_of}
 use Rattle.words.proofs.Laws.{accepted_heads}
@@ -15,10 +14,12 @@ use Rattle.bits.proofs.Laws.{length_put_in}
 use Rattle.records.specs.declared.MarkRecord.{MarkRecord}
 use Rattle.records.specs.Records.{record_fault, marks_of, marks_counted, no_marks_for}
 use Rattle.records.proofs.Laws.{record_good, none_counted, all_marked, one_more_counted}
-use Rattle.picks.specs.declared.PickAnswer.{PickAnswer}
 use Rattle.picks.specs.Entries.{PickAllows}
 use Rattle.picks.specs.Traces.{Picks, no_picks, then_picks}
 use Rattle.picks.proofs.Accepted.{pick_accepted}
+use Rattle.std.specs.Prelude.{Ok, Result}
+use Rattle.picks.specs.declared.PickAnswer.{PickAnswer}
+use Rattle.refusal.specs.declared.Refusal.{Refusal}
 
 -- eight words of marks, and their number as the count
 pub record Counted (r : MarkRecord) : Type 0 where
@@ -29,15 +30,16 @@ pub fresh_counted : (N : ℕ) → Counted (no_marks_for N)
 fresh_counted N = record { eight = refl; true_count = none_counted N }
 
 -- one more counted exactly where the answer is `marked`; else the record is as it was
-pub answer_tells_count : {r : MarkRecord} {t : List ℕ} {a : ℕ} {r' : MarkRecord} {answer : PickAnswer} → PickAllows r t a answer r'
-    → ((answer ≡ PickAnswer.Marked) × (r'.count ≡ r.count + 1)) ⊎ ((answer ≡ PickAnswer.Marked → ⊥) × (r' ≡ r))
+pub answer_tells_count : {r : MarkRecord} {t : List ℕ} {a : ℕ} {r' : MarkRecord} {answer : Result PickAnswer Refusal} → PickAllows r t a answer r'
+    → ((answer ≡ (Ok PickAnswer.Marked)) × (r'.count ≡ r.count + 1)) ⊎ ((answer ≡ (Ok PickAnswer.Marked) → ⊥) × (r' ≡ r))
 answer_tells_count (PickAllows.refused e) = inr ((λ p. let z : ◌≡◌ {A = ℕ} 0 1 = cc in absurd (omega arith)), refl)
 answer_tells_count (PickAllows.already_marked e m) = inr ((λ p. let z : ◌≡◌ {A = ℕ} 0 1 = cc in absurd (omega arith)), refl)
 answer_tells_count (PickAllows.marked e c) = inl (refl, refl)
 answer_tells_count (PickAllows.cannot_be_marked_now e u n) = inr ((λ p. let z : ◌≡◌ {A = ℕ} 0 1 = cc in absurd (omega arith)), refl)
 
 -- a count that was true before a pick is true after it
-pub pick_counted : {r : MarkRecord} {t : List ℕ} {a : ℕ} {r' : MarkRecord} {answer : PickAnswer} → Counted r → PickAllows r t a answer r' → Counted r'
+pub pick_counted : {r : MarkRecord} {t : List ℕ} {a : ℕ} {r' : MarkRecord} {answer : Result PickAnswer Refusal}
+    → Counted r → PickAllows r t a answer r' → Counted r'
 pick_counted c (PickAllows.refused e) = c
 pick_counted c (PickAllows.already_marked e m) = c
 pick_counted c (PickAllows.cannot_be_marked_now e u n) = c
@@ -55,7 +57,7 @@ picks_counted c no_picks = c
 picks_counted c (then_picks p ps) = picks_counted (pick_counted c p) ps
 
 -- a record without fault whose count is N is settled, for every accepted table for N
-pub all_counted_settled : (r : MarkRecord) → record_fault r ≡ Accepted → r.count ≡ r.n → (t : List ℕ) → AcceptedTable r.n t
+pub all_counted_settled : (r : MarkRecord) → record_fault r ≡ Ok tt → r.count ≡ r.n → (t : List ℕ) → AcceptedTable r.n t
     → Settled (rules_of t) (marks_of r)
 all_counted_settled r e full t accepted =
     all_marked→settled (rules_of t) r.n (accepted_heads r.n t accepted) (marks_of r) (all_marked r e full)

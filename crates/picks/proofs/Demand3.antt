@@ -8,8 +8,7 @@ use lib.Dec.{T_not}
 use lib.ListN.{length}
 use Rattle.refusal.specs.declared.Refusal.{Refusal}
 use Rattle.refusal.specs.Numbers.{not_settled}
-use Rattle.refusal.specs.declared.Checked.{Checked}
-use Rattle.refusal.specs.declared.Checked.TheVariants.{Accepted}
+use Rattle.refusal.specs.Checks.{Checked, Decided}
 use Rattle.words.specs.Check.{AcceptedTable}
 use Rattle.words.specs.Layout.{rules_of}
 use Rattle.refusal.proofs.Laws.{refused≢accepted}
@@ -27,18 +26,17 @@ use Rattle.bits.proofs.Laws.{member_put_in_other, same_members}
 use Rattle.records.specs.Records.{marks_of, marks_counted, no_marks_for, CountAllows}
 use Rattle.picks.specs.Faults.{pick_fault}
 use Rattle.records.specs.declared.MarkRecord.{MarkRecord}
-use Rattle.picks.specs.declared.PickAnswer.{PickAnswer}
-use Rattle.refusal.specs.declared.Decided.{Decided}
-use Rattle.refusal.specs.declared.Numbered.{Numbered}
 use Rattle.picks.specs.Entries.{PickAllows, SettledAllows, ReportAllows}
 use Rattle.values.specs.Values.{written}
 use Rattle.picks.specs.Traces.{Picks, PickPasses}
 use Rattle.picks.proofs.Tracing.{RecordFor, fresh_for, record_for_good, pick_not_refused, picks_pass, picks_marking, passes_passes}
 use Rattle.picks.proofs.Counted.{all_counted_settled}
 use Rattle.picks.proofs.Faultless.{settled_not_refused, only_before_settled, reports, counts}
+use Rattle.std.specs.Prelude.{Ok, Err, Result}
+use Rattle.picks.specs.declared.PickAnswer.{PickAnswer}
 
 -- a pick touches no other atom's mark, and not N
-pub only_its_own_atom : {r : MarkRecord} {t : List ℕ} {a : ℕ} {r' : MarkRecord} {answer : PickAnswer}
+pub only_its_own_atom : {r : MarkRecord} {t : List ℕ} {a : ℕ} {r' : MarkRecord} {answer : Result PickAnswer Refusal}
     → PickAllows r t a answer r' → (r'.n ≡ r.n) × ((b : ℕ) → b ≢ a → marks_of r' b ≡ marks_of r b)
 only_its_own_atom (PickAllows.refused e) = (refl, λ b n. refl)
 only_its_own_atom (PickAllows.already_marked e m) = (refl, λ b n. refl)
@@ -46,9 +44,9 @@ only_its_own_atom {r} {a = a} (PickAllows.marked e c) = (refl, λ b n. member_pu
 only_its_own_atom (PickAllows.cannot_be_marked_now e u n) = (refl, λ b n'. refl)
 
 -- a pick answers `marked` exactly when its atom can be marked, if it is not refused there
-marks_exactly_when_it_may : {r : MarkRecord} {t : List ℕ} {a : ℕ} {r' : MarkRecord} {answer : PickAnswer} → PickAllows r t a answer r'
-    → (CanBeMarked (rules_of t) (marks_of r) a → pick_fault r t a ≡ Accepted)
-    → (answer ≡ PickAnswer.Marked) ↔ CanBeMarked (rules_of t) (marks_of r) a
+marks_exactly_when_it_may : {r : MarkRecord} {t : List ℕ} {a : ℕ} {r' : MarkRecord} {answer : Result PickAnswer Refusal} → PickAllows r t a answer r'
+    → (CanBeMarked (rules_of t) (marks_of r) a → pick_fault r t a ≡ Ok tt)
+    → (answer ≡ (Ok PickAnswer.Marked)) ↔ CanBeMarked (rules_of t) (marks_of r) a
 marks_exactly_when_it_may (PickAllows.refused {f} e) h =
     ((λ p. let z : ◌≡◌ {A = ℕ} 0 1 = cc in absurd (omega arith)), λ c. absurd (refused≢accepted f (sym e ∙ h c)))
 marks_exactly_when_it_may {r} {a = a} (PickAllows.already_marked e m) h =
@@ -61,35 +59,35 @@ module _ (N : ℕ) (t : List ℕ) (accepted : AcceptedTable N t) {l : List ℕ} 
   reached = (picks_marking N t accepted picks).0
 
   -- a pick marks its own atom exactly when it may
-  pub marks_when_it_may : (a : ℕ) {answer : PickAnswer} {r' : MarkRecord} → PickAllows r t a answer r'
-      → (answer ≡ PickAnswer.Marked) ↔ CanBeMarked (rules_of t) (marks_of r) a
+  pub marks_when_it_may : (a : ℕ) {answer : Result PickAnswer Refusal} {r' : MarkRecord} → PickAllows r t a answer r'
+      → (answer ≡ (Ok PickAnswer.Marked)) ↔ CanBeMarked (rules_of t) (marks_of r) a
   marks_when_it_may a o =
       marks_exactly_when_it_may o
       (λ c. pick_not_refused N t accepted r reached a (can_be_marked_below (rules_of t) N (accepted_heads N t accepted) (marks_of r) a c))
 
   -- nothing is refused that a caller could mean
-  pub pick_never_refused : (a : ℕ) → a < N → {answer : PickAnswer} {r' : MarkRecord}
-      → PickAllows r t a answer r' → (f : Refusal) → answer ≡ PickAnswer.Refused f → ⊥
+  pub pick_never_refused : (a : ℕ) → a < N → {answer : Result PickAnswer Refusal} {r' : MarkRecord}
+      → PickAllows r t a answer r' → (f : Refusal) → answer ≡ Err f → ⊥
   pick_never_refused a lt (PickAllows.refused {f} e) g same = refused≢accepted f (sym e ∙ pick_not_refused N t accepted r reached a lt)
   pick_never_refused a lt (PickAllows.already_marked e m) g same = absurd (let z : ◌≡◌ {A = ℕ} 0 1 = cc in omega arith)
   pick_never_refused a lt (PickAllows.marked e c) g same = absurd (let z : ◌≡◌ {A = ℕ} 0 1 = cc in omega arith)
   pick_never_refused a lt (PickAllows.cannot_be_marked_now e u n) g same = absurd (let z : ◌≡◌ {A = ℕ} 0 1 = cc in omega arith)
 
-  pub settled_never_refused : {answer : Decided} → SettledAllows r t answer → (f : Refusal) → answer ≡ Decided.Refused f → ⊥
+  pub settled_never_refused : {answer : Decided} → SettledAllows r t answer → (f : Refusal) → answer ≡ Err f → ⊥
   settled_never_refused o = settled_not_refused N t accepted r reached o
 
   pub report_refused_before_settled : (room : List ℕ) → N ≤ length room
       → {answer : Checked} {room' : List ℕ} → ReportAllows r t room answer room'
-      → (f : Refusal) → answer ≡ Checked.Refused f → (f ≡ not_settled) × (Settled (rules_of t) (marks_of r) → ⊥)
+      → (f : Refusal) → answer ≡ Err f → (f ≡ not_settled) × (Settled (rules_of t) (marks_of r) → ⊥)
   report_refused_before_settled room fits o = only_before_settled N t accepted r reached room fits o
 
-  pub count_never_refused : {answer : Numbered} → CountAllows r answer → answer ≡ Numbered.Number (count 512 (marks_of r))
+  pub count_never_refused : {answer : Result ℕ Refusal} → CountAllows r answer → answer ≡ Ok (count 512 (marks_of r))
   count_never_refused o = counts N t accepted r reached o
 
   -- as soon as no atom can be marked, the report's values are those of the smallest well-supported model
   pub report_after_picks : Settled (rules_of t) (marks_of r) → (I : Interpretation) → Smallest (rules_of t) I → (room : List ℕ) → N ≤ length room
       → {answer : Checked} {room' : List ℕ} → ReportAllows r t room answer room'
-      → (answer ≡ Checked.Accepted) × (room' ≡ written (λ a. value I (positive a)) N room)
+      → (answer ≡ Ok tt) × (room' ≡ written (λ a. value I (positive a)) N room)
   report_after_picks s I i room fits o =
       let q = picks_marking N t accepted picks in
       let w = reports N t accepted r q.0 s room fits o in (
@@ -106,10 +104,10 @@ module _ (N : ℕ) (t : List ℕ) (accepted : AcceptedTable N t) {l : List ℕ} 
       let q = picks_marking N t accepted picks in
       count_≡ 512 (marks_of r) (inconsistent I) (λ a h. marks_are_inconsistent (rules_of t) (accepted_one_rule N t accepted) q.1.1 s I i a)
 
-  pub count_after_picks : Settled (rules_of t) (marks_of r) → (I : Interpretation) → Smallest (rules_of t) I → {answer : Numbered}
+  pub count_after_picks : Settled (rules_of t) (marks_of r) → (I : Interpretation) → Smallest (rules_of t) I → {answer : Result ℕ Refusal}
       → CountAllows r answer
-      → answer ≡ Numbered.Number (count 512 (inconsistent I))
-  count_after_picks s I i o = counts N t accepted r reached o ∙ ap Numbered.Number (as_many_inconsistent s I i)
+      → answer ≡ Ok (count 512 (inconsistent I))
+  count_after_picks s I i o = counts N t accepted r reached o ∙ ap Ok (as_many_inconsistent s I i)
 
   pub stored_after_picks : Settled (rules_of t) (marks_of r) → (I : Interpretation) → Smallest (rules_of t) I → r.count ≡ count 512 (inconsistent I)
   stored_after_picks s I i = reached.counted.true_count ∙ as_many_inconsistent s I i

@@ -9,16 +9,18 @@ use Rattle.paper.specs.Definitions.{Interpretation}
 use Rattle.paper.specs.Marking.{settled_value}
 use Rattle.sets.proofs.Tests.{same_tests→≡}
 use Rattle.records.specs.declared.MarkRecord.{MarkRecord}
-use Rattle.refusal.specs.declared.Checked.{Checked}
-use Rattle.picks.specs.declared.PickAnswer.{PickAnswer}
-use Rattle.refusal.specs.declared.Decided.{Decided}
+use Rattle.refusal.specs.Checks.{Checked, Decided}
 use Rattle.records.specs.Records.{marks_of}
 use Rattle.picks.specs.Entries.{PickAllows, SettledAllows, ReportAllows}
 use Rattle.values.specs.Values.{written}
+use Rattle.std.specs.Prelude.{Err, Result}
+use Rattle.picks.specs.declared.PickAnswer.{PickAnswer}
+use Rattle.refusal.specs.declared.Refusal.{Refusal}
 
 module _ (r : MarkRecord) (t : List ℕ) where
-  pub pick_determined : (n : ℕ) {a b : PickAnswer} {x y : MarkRecord} → PickAllows r t n a x → PickAllows r t n b y → (a ≡ b) × (x ≡ y)
-  pick_determined n (PickAllows.refused {f} e) (PickAllows.refused {f = g} e') = let q : f ≡ g = cc in (ap PickAnswer.Refused q, refl)
+  pub pick_determined : (n : ℕ) {a b : Result PickAnswer Refusal} {x y : MarkRecord}
+      → PickAllows r t n a x → PickAllows r t n b y → (a ≡ b) × (x ≡ y)
+  pick_determined n (PickAllows.refused {f} e) (PickAllows.refused {f = g} e') = let q : f ≡ g = cc in (ap Err q, refl)
   pick_determined n (PickAllows.refused {f} e) (PickAllows.already_marked e' m) = absurd (refused≢accepted f (sym e ∙ e'))
   pick_determined n (PickAllows.refused {f} e) (PickAllows.marked e' c) = absurd (refused≢accepted f (sym e ∙ e'))
   pick_determined n (PickAllows.refused {f} e) (PickAllows.cannot_be_marked_now e' u c) = absurd (refused≢accepted f (sym e ∙ e'))
@@ -40,7 +42,7 @@ module _ (r : MarkRecord) (t : List ℕ) where
 
   pub report_determined : (room : List ℕ) {a b : Checked} {x y : List ℕ}
       → ReportAllows r t room a x → ReportAllows r t room b y → (a ≡ b) × (x ≡ y)
-  report_determined room (ReportAllows.refused {f} e) (ReportAllows.refused {f = g} e') = let q : f ≡ g = cc in (ap Checked.Refused q, refl)
+  report_determined room (ReportAllows.refused {f} e) (ReportAllows.refused {f = g} e') = let q : f ≡ g = cc in (ap Err q, refl)
   report_determined room (ReportAllows.refused {f} e) (ReportAllows.before_settled e' n) = absurd (refused≢accepted f (sym e ∙ e'))
   report_determined room (ReportAllows.refused {f} e) (ReportAllows.reported e' s H h) = absurd (refused≢accepted f (sym e ∙ e'))
   report_determined room (ReportAllows.before_settled e n) (ReportAllows.refused {f} e') = absurd (refused≢accepted f (sym e' ∙ e))

@@ -8,7 +8,6 @@ use native.Mathlib.Omega.{arith}
 use lib.Dec.{T, T_not}
 use lib.ListN.{length}
 use borrow.Author.Tests.{lt-ltb}
-use Rattle.refusal.specs.declared.Checked.TheVariants.{Accepted}
 use Rattle.words.specs.Check.{AcceptedTable}
 use Rattle.words.specs.Layout.{rules_of}
 use Rattle.refusal.proofs.Laws.{refused≢accepted}
@@ -25,9 +24,11 @@ use Rattle.picks.specs.Faults.{pick_fault}
 use Rattle.records.proofs.Laws.{good_record}
 use Rattle.picks.proofs.Counted.{Counted, fresh_counted, pick_counted}
 use Rattle.records.specs.declared.MarkRecord.{MarkRecord}
-use Rattle.picks.specs.declared.PickAnswer.{PickAnswer}
 use Rattle.picks.specs.Entries.{PickAllows}
 use Rattle.picks.specs.Traces.{Picks, no_picks, then_picks, PickPasses}
+use Rattle.std.specs.Prelude.{Ok, Result}
+use Rattle.picks.specs.declared.PickAnswer.{PickAnswer}
+use Rattle.refusal.specs.declared.Refusal.{Refusal}
 
 -- a record for N atoms: eight words of 64 bits, their marks counted, and none at N or above
 pub record RecordFor (N : ℕ) (r : MarkRecord) : Type 0 where
@@ -44,7 +45,7 @@ fresh_marks N = mathlib.Core.Path.fun_ext (member_of_zeros 8)
 
 module _ (N : ℕ) (t : List ℕ) (accepted : AcceptedTable N t) where
   -- its record has no fault
-  pub record_for_good : (r : MarkRecord) → RecordFor N r → record_fault r ≡ Accepted
+  pub record_for_good : (r : MarkRecord) → RecordFor N r → record_fault r ≡ Ok tt
   record_for_good r g =
       good_record r
       (record {
@@ -54,13 +55,13 @@ module _ (N : ℕ) (t : List ℕ) (accepted : AcceptedTable N t) where
       })
 
   -- an atom below N is not refused
-  pub pick_not_refused : (r : MarkRecord) → RecordFor N r → (a : ℕ) → a < N → pick_fault r t a ≡ Accepted
+  pub pick_not_refused : (r : MarkRecord) → RecordFor N r → (a : ℕ) → a < N → pick_fault r t a ≡ Ok tt
   unfolding pick_fault
   pick_not_refused r g a lt =
       rw (record_for_good r g, g.same_n, accepted, lt-ltb a N lt)
 
   -- one pick by the promise is one step of a pass
-  step : {r : MarkRecord} {a : ℕ} {r' : MarkRecord} {answer : PickAnswer} → RecordFor N r → PickAllows r t a answer r'
+  step : {r : MarkRecord} {a : ℕ} {r' : MarkRecord} {answer : Result PickAnswer Refusal} → RecordFor N r → PickAllows r t a answer r'
       → RecordFor N r' × ((rest : List ℕ) (B : Marks) → Pass (rules_of t) (marks_of r') rest B → Pass (rules_of t) (marks_of r) (a ∷ rest) B)
   step {r} {a = a} g (PickAllows.refused {f} e) = (
     g,

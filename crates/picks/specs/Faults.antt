@@ -1,9 +1,7 @@
 -- Believed: the order of refusals of pick, settled question and report.
-use Rattle.std.specs.Prelude.{List, ℕ, ltb}
+use Rattle.std.specs.Prelude.{List, ℕ, ltb, Ok}
 use Rattle.refusal.specs.Numbers.{no_such_atom}
-use Rattle.refusal.specs.declared.Checked.{Checked}
-use Rattle.refusal.specs.declared.Checked.TheVariants.{Accepted}
-use Rattle.refusal.specs.Checks.{asking, or_else}
+use Rattle.refusal.specs.Checks.{Checked, asking, or_else}
 use Rattle.words.specs.Check.{table_too_long_fault, table_check}
 use Rattle.records.specs.declared.MarkRecord.{MarkRecord}
 use Rattle.records.specs.Records.{record_fault}
@@ -11,7 +9,7 @@ use Rattle.values.specs.Values.{room_too_small}
 
 -- 16: picked atom not below N
 abbrev pub atom_fault : ℕ → ℕ → Checked
-atom_fault N a = asking (ltb a N) no_such_atom Accepted
+atom_fault N a = asking (ltb a N) no_such_atom (Ok tt)
 
 -- pick: 1, 17, 2, words, 16
 unfoldable pub pick_fault : MarkRecord → List ℕ → ℕ → Checked

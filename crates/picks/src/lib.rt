@@ -4,71 +4,69 @@ ghost use Rattle.std.specs.Prelude.{◌≡◌, ◌<◌, length};
 ghost use Rattle.picks.specs.Faults.{atom_fault, pick_fault, settled_fault, report_fault};
 ghost use Rattle.picks.specs.Entries.{PickAllows, SettledAllows, ReportAllows};
 
+use index::{Index, IndexedTable};
 use records::MarkRecord;
-use refusal::{Checked, Decided, Refusal};
+use refusal::{Reason, Refusal};
 
-#[derive(Clone, Copy)]
+// What a pick that is not refused answers.
+#[derive(Clone, Copy, Debug, PartialEq, Eq)]
 pub enum PickAnswer {
     Marked,
     AlreadyMarked,
     CannotBeMarkedNow,
-    Refused(Refusal),
 }
 
 // 16.
-fn atom_fault(n: u64, atom: u64) -> Checked
+fn atom_fault(n: u64, atom: u64) -> Result<(), Refusal>
     ensures { result ≡ atom_fault n atom }
 {
     if atom < n {
-        Checked::Accepted
+        Ok(())
     } else {
-        refusal::refused(refusal::NO_SUCH_ATOM, 0)
+        refusal::refused(Reason::NoSuchAtom, 0)
     }
 }
 
 #[tactic(auto, unfolding(crate::specs::Faults::pick_fault))]
-fn pick_fault(record: MarkRecord, table: &[u16], atom: u64) -> Checked
+fn pick_fault(record: MarkRecord, table: &[u16], atom: u64) -> Result<(), Refusal>
     ensures { result ≡ pick_fault «record» table.now atom }
 {
-    let n = record.n;
-    refusal::first_of(
-        records::record_fault(record),
-        refusal::first_of(words::check(n, table), atom_fault(n, atom)),
-    )
+    records::record_fault(record)?;
+    words::check(record.n, table)?;
+    atom_fault(record.n, atom)
 }
 
 // What a pick answers, and the record after it.
 #[derive(Clone, Copy)]
 pub struct Picked {
-    pub answer: PickAnswer,
+    pub answer: Result<PickAnswer, Refusal>,
     pub record: MarkRecord,
 }
 
 // An accepted pick: a new mark if the atom can be marked.
 fn mark_atom(record: MarkRecord, table: &[u16], atom: u64) -> Picked
-    requires { pick_fault «record» table.now atom ≡ Checked.Accepted }
+    requires { pick_fault «record» table.now atom ≡ Ok tt }
     ensures { PickAllows «record» table.now atom result.answer result.record }
 {
     let marks = record.marks;
     let a = atom as usize;
     if bits::has(&marks, a) {
         return Picked {
-            answer: PickAnswer::AlreadyMarked,
+            answer: Ok(PickAnswer::AlreadyMarked),
             record,
         };
     }
-    let mut index = [0u16; index::CELLS];
-    let mut facts = [0u64; 16];
-    index::build(table, &mut index, &mut facts);
-    if marking::can_be_marked(table, &index, facts, &marks, a) {
+    let mut room = Index::empty();
+    let rules = IndexedTable::build(table, &mut room);
+    if marking::can_be_marked(&rules, &marks, a) {
         let marked = records::with_mark(record, a);
         return Picked {
-            answer: PickAnswer::Marked,
+            answer: Ok(PickAnswer::Marked),
             record: marked,
         };
     }
     Picked {
-        answer: PickAnswer::CannotBeMarkedNow,
+        answer: Ok(PickAnswer::CannotBeMarkedNow),
         record,
     }
 }
@@ -77,9 +75,9 @@ fn mark_atom(record: MarkRecord, table: &[u16], atom: u64) -> Picked
 pub fn pick_by_value(record: MarkRecord, table: &[u16], atom: u64) -> Picked
     ensures { PickAllows «record» table.now atom result.answer result.record }
 {
-    if let Checked::Refused(r) = pick_fault(record, table, atom) {
+    if let Err(r) = pick_fault(record, table, atom) {
         return Picked {
-            answer: PickAnswer::Refused(r),
+            answer: Err(r),
             record,
         };
     }
@@ -87,7 +85,7 @@ pub fn pick_by_value(record: MarkRecord, table: &[u16], atom: u64) -> Picked
 }
 
 // A pick of an atom: it alters at most that atom's mark in the record it is lent.
-pub fn pick(record: &mut MarkRecord, table: &[u16], atom: u64) -> PickAnswer
+pub fn pick(record: &mut MarkRecord, table: &[u16], atom: u64) -> Result<PickAnswer, Refusal>
     ensures { PickAllows «record».old table.now atom result «record».new }
 {
     let picked = pick_by_value(*record, table, atom);
@@ -104,68 +102,60 @@ pub fn pick_numbers(n: u64, marks: [u64; 8], count: u64, table: &[u16], atom: u6
     Picked { answer, record }
 }
 
-fn settled_fault(record: MarkRecord, table: &[u16]) -> Checked
+#[tactic(auto, unfolding(crate::specs::Faults::settled_fault))]
+fn settled_fault(record: MarkRecord, table: &[u16]) -> Result<(), Refusal>
     ensures { result ≡ settled_fault «record» table.now }
 {
-    let n = record.n;
-    refusal::first_of(records::record_fault(record), words::check(n, table))
+    records::record_fault(record)?;
+    words::check(record.n, table)
 }
 
 // Can no atom be marked?
-pub fn settled(record: MarkRecord, table: &[u16]) -> Decided
+pub fn settled(record: MarkRecord, table: &[u16]) -> Result<bool, Refusal>
     ensures { SettledAllows «record» table.now result }
 {
-    if let Checked::Refused(r) = settled_fault(record, table) {
-        return Decided::Refused(r);
-    }
+    settled_fault(record, table)?;
     let n = record.n;
     let marks = record.marks;
-    let mut index = [0u16; index::CELLS];
-    let mut facts = [0u64; 16];
-    index::build(table, &mut index, &mut facts);
-    if marking::can_go_on(table, &index, facts, &marks, n as usize) {
-        return Decided::No;
+    let mut room = Index::empty();
+    let rules = IndexedTable::build(table, &mut room);
+    if marking::can_go_on(&rules, &marks, n as usize) {
+        return Ok(false);
     }
-    Decided::Yes
+    Ok(true)
 }
 
-fn report_fault(record: MarkRecord, table: &[u16], room: u64) -> Checked
+#[tactic(auto, unfolding(crate::specs::Faults::report_fault))]
+fn report_fault(record: MarkRecord, table: &[u16], room: u64) -> Result<(), Refusal>
     ensures { result ≡ report_fault «record» table.now room }
 {
-    let n = record.n;
-    refusal::first_of(
-        records::record_fault(record),
-        refusal::first_of(
-            words::table_too_long(table),
-            refusal::first_of(values::room_too_small(n, room), words::check(n, table)),
-        ),
-    )
+    records::record_fault(record)?;
+    words::table_too_long(table)?;
+    values::room_too_small(record.n, room)?;
+    words::check(record.n, table)
 }
 
-fn report_settled(record: MarkRecord, table: &[u16], values: &mut [u8]) -> Checked
-    requires { report_fault «record» table.now (length values.old) ≡ Checked.Accepted }
+fn report_settled(record: MarkRecord, table: &[u16], values: &mut [u8]) -> Result<(), Refusal>
+    requires { report_fault «record» table.now (length values.old) ≡ Ok tt }
     ensures { ReportAllows «record» table.now values.old result values.new }
 {
     let n = record.n;
     let marks = record.marks;
-    let mut index = [0u16; index::CELLS];
-    let mut facts = [0u64; 16];
-    index::build(table, &mut index, &mut facts);
-    let goes_on = marking::can_go_on(table, &index, facts, &marks, n as usize);
+    let mut room = Index::empty();
+    let rules = IndexedTable::build(table, &mut room);
+    let goes_on = marking::can_go_on(&rules, &marks, n as usize);
     if goes_on {
-        return refusal::refused(refusal::NOT_SETTLED, 0);
+        return refusal::refused(Reason::NotSettled, 0);
     }
-    let held = pending::held(table, &index, facts, &marks);
+    let held = pending::held(&rules, &marks);
     values::write_values(values, &marks, &held, n as usize);
-    Checked::Accepted
+    Ok(())
 }
 
 // The values of a settled record.
-pub fn report(record: MarkRecord, table: &[u16], values: &mut [u8]) -> Checked
+pub fn report(record: MarkRecord, table: &[u16], values: &mut [u8]) -> Result<(), Refusal>
     ensures { ReportAllows «record» table.now values.old result values.new }
 {
-    if let Checked::Refused(r) = report_fault(record, table, values.len() as u64) {
-        return Checked::Refused(r);
-    }
+    report_fault(record, table, values.len() as u64)?;
     report_settled(record, table, values)
 }

@@ -1,58 +1,56 @@
 -- Stage: an answer as one number for tests: below 2^32 what it says, from there on a refusal.
-use Rattle.std.specs.Prelude.{◌≡◌, ℕ, ◌+◌, ◌*◌, ◌%◌, ◌^◌, Bool, cond, List, [], ◌∷◌}
+use Rattle.std.specs.Prelude.{◌≡◌, ℕ, ◌+◌, ◌*◌, ◌%◌, ◌^◌, Bool, cond, List, [], ◌∷◌, Ok, Err, Some, None, Option, Result}
 use Rattle.refusal.specs.declared.Refusal.{Refusal}
-use Rattle.refusal.specs.declared.Numbered.{Numbered}
-use Rattle.refusal.specs.declared.Checked.{Checked}
+use Rattle.refusal.specs.Checks.{Checked, Decided}
 use Rattle.records.specs.Records.{FreshAllows, CountAllows}
 use Rattle.picks.specs.Entries.{PickAllows, SettledAllows, ReportAllows}
 use Rattle.records.specs.declared.MarkRecord.{MarkRecord}
-use Rattle.picks.specs.declared.PickAnswer.{PickAnswer}
-use Rattle.refusal.specs.declared.Decided.{Decided}
 use Rattle.conflict.specs.Conflict.{ConflictAllows}
 use Rattle.paper.specs.Rules.{Rule}
 use Rattle.words.specs.Layout.{rules_of}
 use Rattle.words.specs.Check.{table_check, AcceptedTable}
-use Rattle.least.specs.declared.WhichGroup.{WhichGroup}
 use Rattle.least.specs.Groups.{WhichAllows}
 use Rattle.evaluation.specs.Evaluation.{EvaluationAllows}
 use Rattle.reader.specs.declared.Role.{Role}
 use Rattle.reader.specs.declared.SheetLiteral.{SheetLiteral}
 use Rattle.reader.specs.declared.Reading.{Reading}
-use Rattle.sheets.specs.declared.SheetAnswer.{SheetAnswer}
-use Rattle.sheets.specs.SheetEntry.{SheetAllows}
+use Rattle.sheets.specs.SheetEntry.{SheetAllows, SheetAnswer}
+use mathlib.Core.Bool.{true, false}
+use Rattle.picks.specs.declared.PickAnswer.{PickAnswer}
+use Rattle.refusal.specs.Numbers.{number_of}
 
 -- 2^32 × number + place, taken modulo 2^64: nothing is lost while both are below 2^32
 unfoldable pub packed_wrapping : Refusal → ℕ
-packed_wrapping r = ((r.number * 2 ^ 32) % 2 ^ 64 + r.place) % 2 ^ 64
+packed_wrapping r = ((number_of r.reason * 2 ^ 32) % 2 ^ 64 + r.place) % 2 ^ 64
 
 -- done or refused
 abbrev pub checked_number : Checked → ℕ
-checked_number Checked.Accepted = 0
-checked_number (Checked.Refused r) = packed_wrapping r
+checked_number (Ok tt) = 0
+checked_number (Err r) = packed_wrapping r
 
 -- a number or refused
-abbrev pub numbered_number : Numbered → ℕ
-numbered_number (Numbered.Number n) = n
-numbered_number (Numbered.Refused r) = packed_wrapping r
+abbrev pub numbered_number : Result ℕ Refusal → ℕ
+numbered_number (Ok n) = n
+numbered_number (Err r) = packed_wrapping r
 
 -- yes or no or refused
 abbrev pub decided_number : Decided → ℕ
-decided_number Decided.No = 0
-decided_number Decided.Yes = 1
-decided_number (Decided.Refused r) = packed_wrapping r
+decided_number (Ok false) = 0
+decided_number (Ok true) = 1
+decided_number (Err r) = packed_wrapping r
 
-abbrev pub pick_number : PickAnswer → ℕ
-pick_number PickAnswer.Marked = 0
-pick_number PickAnswer.AlreadyMarked = 1
-pick_number PickAnswer.CannotBeMarkedNow = 2
-pick_number (PickAnswer.Refused r) = packed_wrapping r
+abbrev pub pick_number : Result PickAnswer Refusal → ℕ
+pick_number (Ok PickAnswer.Marked) = 0
+pick_number (Ok PickAnswer.AlreadyMarked) = 1
+pick_number (Ok PickAnswer.CannotBeMarkedNow) = 2
+pick_number (Err r) = packed_wrapping r
 
 -- the record's entries: what crates/picks allows, packed; N, marks and count afterwards where they are lent
 pub data FreshPacked (asked : ℕ) : ℕ → ℕ → List ℕ → ℕ → Type 0 where
   answers : {a : Checked} {r : MarkRecord} → FreshAllows asked a r → FreshPacked asked (checked_number a) r.n r.marks r.count
 
 pub data PickPacked (r : MarkRecord) (t : List ℕ) (atom : ℕ) : ℕ → ℕ → List ℕ → ℕ → Type 0 where
-  answers : {a : PickAnswer} {after : MarkRecord} → PickAllows r t atom a after
+  answers : {a : Result PickAnswer Refusal} {after : MarkRecord} → PickAllows r t atom a after
       → PickPacked r t atom (pick_number a) after.n after.marks after.count
 
 pub data SettledPacked (r : MarkRecord) (t : List ℕ) : ℕ → Type 0 where
@@ -62,22 +60,22 @@ pub data ReportPacked (r : MarkRecord) (t room : List ℕ) : ℕ → List ℕ �
   answers : {a : Checked} {values : List ℕ} → ReportAllows r t room a values → ReportPacked r t room (checked_number a) values
 
 pub data CountPacked (r : MarkRecord) : ℕ → Type 0 where
-  answers : {a : Numbered} → CountAllows r a → CountPacked r (numbered_number a)
+  answers : {a : Result ℕ Refusal} → CountAllows r a → CountPacked r (numbered_number a)
 
 -- the question of conflict: what crates/conflict allows, packed
 pub data ConflictPacked (N : ℕ) (t : List ℕ) : ℕ → Type 0 where
   answers : {a : Decided} → ConflictAllows N t a → ConflictPacked N t (decided_number a)
 
 -- which group: its number, 65 for none
-abbrev pub which_number : WhichGroup → ℕ
-which_number (WhichGroup.Number g) = g
-which_number WhichGroup.None = 65
+abbrev pub which_number : Option ℕ → ℕ
+which_number (Some g) = g
+which_number None = 65
 
 -- what crates/least allows of the first rule of an accepted table, packed; 66 where it has none
 pub data WhichPacked (N : ℕ) (t : List ℕ) (S : ℕ → Bool) : ℕ → Type 0 where
-  refused : {f : Refusal} → table_check N t ≡ Checked.Refused f → WhichPacked N t S (packed_wrapping f)
+  refused : {f : Refusal} → table_check N t ≡ Err f → WhichPacked N t S (packed_wrapping f)
   no_rule : AcceptedTable N t → rules_of t ≡ [] → WhichPacked N t S 66
-  answers : {ρ : Rule} {R : List Rule} {w : WhichGroup} → AcceptedTable N t → rules_of t ≡ ρ ∷ R → WhichAllows S ρ.groups w
+  answers : {ρ : Rule} {R : List Rule} {w : Option ℕ} → AcceptedTable N t → rules_of t ≡ ρ ∷ R → WhichAllows S ρ.groups w
       → WhichPacked N t S (which_number w)
 
 -- whole evaluation: what crates/evaluation allows, packed
@@ -112,16 +110,16 @@ name_length (Reading.Literal l) = l.len
 
 -- the sheet entry: the value sheet's length; N and the words filled, 0 after a refusal
 abbrev pub sheet_number : SheetAnswer → ℕ
-sheet_number (SheetAnswer.Accepted counts) = counts.bytes
-sheet_number (SheetAnswer.Refused r) = packed_wrapping r
+sheet_number (Ok counts) = counts.bytes
+sheet_number (Err r) = packed_wrapping r
 
 abbrev pub sheet_atoms : SheetAnswer → ℕ
-sheet_atoms (SheetAnswer.Accepted counts) = counts.atoms
-sheet_atoms (SheetAnswer.Refused r) = 0
+sheet_atoms (Ok counts) = counts.atoms
+sheet_atoms (Err r) = 0
 
 abbrev pub sheet_words : SheetAnswer → ℕ
-sheet_words (SheetAnswer.Accepted counts) = counts.words
-sheet_words (SheetAnswer.Refused r) = 0
+sheet_words (Ok counts) = counts.words
+sheet_words (Err r) = 0
 
 pub data SheetPacked (s : List ℕ) (wordRoom nameRoom : ℕ) (text : List ℕ) : ℕ → List ℕ → List ℕ → List ℕ → ℕ → ℕ → Type 0 where
   answers : {a : SheetAnswer} {words names after : List ℕ} → SheetAllows s wordRoom nameRoom text a words names after

@@ -8,45 +8,44 @@ ghost use Rattle.bits.specs.Sets.{member};
 ghost use Rattle.reader.specs.Readings.{reading_at, place_after, next_at};
 ghost use Rattle.probe.specs.Packed.{packed_wrapping, checked_number, numbered_number, decided_number, pick_number, FreshPacked, PickPacked, SettledPacked, ReportPacked, CountPacked, ConflictPacked, which_number, WhichPacked, EvaluationPacked, role_number, literal_number, reading_number, name_start, name_length, sheet_number, sheet_atoms, sheet_words, SheetPacked};
 
-use least::WhichGroup;
 use picks::PickAnswer;
 use reader::{Reading, Role, SheetLiteral};
 use records::MarkRecord;
-use refusal::{Checked, Decided, Numbered, Refusal};
-use sheets::SheetAnswer;
+use refusal::Refusal;
+use sheets::SheetCounts;
 
 // 2^32 times the number, plus the place.
 fn packed_refusal(r: Refusal) -> u64
     ensures { result ≡ packed_wrapping r }
 {
-    std::num::wrapping_add_u64(r.number << 32, r.place)
+    std::num::wrapping_add_u64(r.reason.number() << 32, r.place)
 }
 
-fn checked_number(answer: Checked) -> u64
+fn checked_number(answer: Result<(), Refusal>) -> u64
     ensures { result ≡ checked_number answer }
 {
     match answer {
-        Checked::Accepted => 0,
-        Checked::Refused(r) => packed_refusal(r),
+        Ok(()) => 0,
+        Err(r) => packed_refusal(r),
     }
 }
 
-fn numbered_number(answer: Numbered) -> u64
+fn numbered_number(answer: Result<u64, Refusal>) -> u64
     ensures { result ≡ numbered_number answer }
 {
     match answer {
-        Numbered::Number(number) => number,
-        Numbered::Refused(r) => packed_refusal(r),
+        Ok(number) => number,
+        Err(r) => packed_refusal(r),
     }
 }
 
-fn decided_number(answer: Decided) -> u64
+fn decided_number(answer: Result<bool, Refusal>) -> u64
     ensures { result ≡ decided_number answer }
 {
     match answer {
-        Decided::Yes => 1,
-        Decided::No => 0,
-        Decided::Refused(r) => packed_refusal(r),
+        Ok(true) => 1,
+        Ok(false) => 0,
+        Err(r) => packed_refusal(r),
     }
 }
 
@@ -99,14 +98,14 @@ pub extern "C" fn probe_fresh(asked: u64, n: &mut u64, marks: &mut [u64; 8], cou
     checked_number(answer)
 }
 
-fn pick_number(answer: PickAnswer) -> u64
+fn pick_number(answer: Result<PickAnswer, Refusal>) -> u64
     ensures { result ≡ pick_number answer }
 {
     match answer {
-        PickAnswer::Marked => 0,
-        PickAnswer::AlreadyMarked => 1,
-        PickAnswer::CannotBeMarkedNow => 2,
-        PickAnswer::Refused(r) => packed_refusal(r),
+        Ok(PickAnswer::Marked) => 0,
+        Ok(PickAnswer::AlreadyMarked) => 1,
+        Ok(PickAnswer::CannotBeMarkedNow) => 2,
+        Err(r) => packed_refusal(r),
     }
 }
 
@@ -168,12 +167,12 @@ pub extern "C" fn probe_conflict(n: u64, table: &[u16]) -> u64
     decided_number(conflict::in_conflict(n, table))
 }
 
-fn which_number(which: WhichGroup) -> u64
+fn which_number(which: Option<usize>) -> u64
     ensures { result ≡ which_number which }
 {
     match which {
-        WhichGroup::Number(g) => g as u64,
-        WhichGroup::None => 65,
+        Some(g) => g as u64,
+        None => 65,
     }
 }
 
@@ -181,7 +180,7 @@ fn which_number(which: WhichGroup) -> u64
 pub extern "C" fn probe_which_group(n: u64, table: &[u16], set: &[u64]) -> u64
     ensures { WhichPacked n table.now (member set.now) result }
 {
-    if let Checked::Refused(r) = words::check(n, table) {
+    if let Err(r) = words::check(n, table) {
         return packed_refusal(r);
     }
     if 0 < table.len() {
@@ -303,30 +302,30 @@ pub extern "C" fn probe_reader(
     put_reading(reading, start, len)
 }
 
-fn sheet_number(answer: SheetAnswer) -> u64
+fn sheet_number(answer: Result<SheetCounts, Refusal>) -> u64
     ensures { result ≡ sheet_number answer }
 {
     match answer {
-        SheetAnswer::Accepted(counts) => counts.bytes as u64,
-        SheetAnswer::Refused(r) => packed_refusal(r),
+        Ok(counts) => counts.bytes as u64,
+        Err(r) => packed_refusal(r),
     }
 }
 
-fn sheet_atoms(answer: SheetAnswer) -> usize
+fn sheet_atoms(answer: Result<SheetCounts, Refusal>) -> usize
     ensures { result ≡ sheet_atoms answer }
 {
     match answer {
-        SheetAnswer::Accepted(counts) => counts.atoms,
-        SheetAnswer::Refused(_) => 0,
+        Ok(counts) => counts.atoms,
+        Err(_) => 0,
     }
 }
 
-fn sheet_words(answer: SheetAnswer) -> usize
+fn sheet_words(answer: Result<SheetCounts, Refusal>) -> usize
     ensures { result ≡ sheet_words answer }
 {
     match answer {
-        SheetAnswer::Accepted(counts) => counts.words,
-        SheetAnswer::Refused(_) => 0,
+        Ok(counts) => counts.words,
+        Err(_) => 0,
     }
 }
 

@@ -22,9 +22,6 @@ module _ (s : List ℕ) (l : ℕ) (row : length s ≡ 16) (below : l < 1024) {s'
 
 -- literals of a table get lines
 module _ {t : List ℕ} where
-  pub counted_nothing : {s woken counts : List ℕ} → CountsAre t (member s) counts → length woken ≡ 16 → Counted t s s woken woken counts
-  counted_nothing c r = record { counts = c; row = r; more = λ h m. m; whole = λ γ m w. inl w; sound = λ h m. inl m }
-
   pub counted_one : (s : List ℕ) (l : ℕ) {s' woken woken' counts' : List ℕ} → length s ≡ 16 → l < 1024 → s' ≡ put_in s l
       → length woken ≡ 16 → Taken t (member s) l woken woken' counts' → Counted t s s' woken woken' counts'
   counted_one s l {s'} {counts' = counts'} row below put r k =
@@ -35,15 +32,4 @@ module _ {t : List ℕ} where
         more = k.more;
         whole = λ γ m w. k.whole γ m (subst (λ (S : ℕ → Bool). Whole S γ) e w);
         sound = λ h m. ⊎_elim inl (λ q. inr (q.0, q.1, q.2)) (k.sound h m);
-      }
-
-  pub counted_both : {s s₁ s₂ woken woken₁ woken₂ counts₁ counts₂ : List ℕ} → Counted t s s₁ woken woken₁ counts₁
-      → Counted t s₁ s₂ woken₁ woken₂ counts₂ → Counted t s s₂ woken woken₂ counts₂
-  counted_both p q =
-      record {
-        counts = q.counts;
-        row = q.row;
-        more = λ h m. q.more h (p.more h m);
-        whole = λ γ m w. ⊎_elim (λ k. ⊎_elim inl (λ h. inr (q.more γ.head h)) (p.whole γ m k)) inr (q.whole γ m w);
-        sound = λ h m. ⊎_elim (p.sound h) inr (q.sound h m);
       }

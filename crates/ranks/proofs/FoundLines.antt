@@ -23,8 +23,10 @@ use Rattle.bits.specs.Sets.{member}
 use Rattle.bits.proofs.Laws.{member_of_zeros}
 use Rattle.least.specs.Groups.{OnlyGroup, the_fact, the_group}
 use Rattle.least.proofs.Groups.{number≤length}
+use Rattle.justified.specs.ByLiteral.{no_line}
 use Rattle.justified.specs.Justified.{Justified, by_6_or_7, by_8}
-use Rattle.ranks.specs.Found.{Found, Fit, rank_of, head_of, group_of, over_rules, no_lines_yet, clean_found, reasons_found}
+use Rattle.ranks.specs.declared.Found.{Found}
+use Rattle.ranks.specs.Found.{Fit, rank_of, head_of, group_of, over_rules, no_lines_yet, clean_found, reasons_found}
 use Rattle.ranks.proofs.Lines.{ranked_below, negation_below}
 use Rattle.ranks.proofs.Rules.{at_rule_lem, pass_keeps, still_closed}
 use Rattle.ranks.proofs.Passes.{at_most_1024, rest_keeps, at_rest}
@@ -39,7 +41,7 @@ unfolding no_lines_yet
 no_lines_fit =
     record {
       row = length-replicate {A = ℕ} 16 0;
-      room = length-replicate {A = ℕ} 3072 0;
+      room = length-replicate 1024 no_line;
       counted = sym (count_none 1024 (member no_lines_yet.ranked) (λ l lt. false→not (member no_lines_yet.ranked l) (member_of_zeros 16 l)));
     }
 

@@ -3,10 +3,10 @@ use mathlib.Core.List.{List}
 use mathlib.Core.Bool.{Bool, true, false, not, cond}
 use mathlib.Core.Logic.{◌⊎◌, inr, ◌≢◌}
 use mathlib.Core.Path.{◌≡◌, refl, sym, ap, ◌∙◌, subst}
-use Prim.Native.Nat.{ℕ, suc, ◌+◌, ◌*◌, ◌≤◌, ◌<◌}
+use Prim.Native.Nat.{ℕ, suc, ◌≤◌, ◌<◌}
 use native.Mathlib.Omega.{arith}
 use lib.Dec.{T, T_not}
-use lib.ListN.{length, get_or, set, length-set}
+use lib.ListN.{length, length-set}
 use lib.Seq.{get_or-set_same, get_or-set_other}
 use Rattle.sets.specs.Sets.{◌with◌, count}
 use Rattle.sets.proofs.Besides.{with_⊇, with_cases, with_itself}
@@ -14,39 +14,10 @@ use Rattle.sets.proofs.Counting.{count_with, count≤}
 use Rattle.bits.specs.Sets.{member}
 use Rattle.bits.proofs.Laws.{member_put_in, length_put_in, member_past}
 use Rattle.paper.specs.Rules.{negation}
-use Rattle.ranks.specs.Found.{Found, Fit, rank_of, head_of, group_of, set_line, with_line, with_negation}
-
-module _ (ls : List ℕ) (l rank head group : ℕ) where
-  set_line_length : length (set_line ls l rank head group) ≡ length ls
-  unfolding set_line
-  set_line_length = simp length-set
-
-  set_line_other : (i : ℕ) → i ≢ 3 * l → i ≢ 3 * l + 1 → i ≢ 3 * l + 2 → get_or (set_line ls l rank head group) i 0 ≡ get_or ls i 0
-  unfolding set_line
-  set_line_other i a b c =
-      get_or-set_other (set (set ls (3 * l) rank) (3 * l + 1) head) (3 * l + 2) i group 0 c
-      ∙ get_or-set_other (set ls (3 * l) rank) (3 * l + 1) i head 0 b
-      ∙ get_or-set_other ls (3 * l) i rank 0 a
-
-  module _ (inside : 3 * l + 2 < length ls) where
-    set_line_rank : get_or (set_line ls l rank head group) (3 * l) 0 ≡ rank
-    unfolding set_line
-    set_line_rank =
-        get_or-set_other (set (set ls (3 * l) rank) (3 * l + 1) head) (3 * l + 2) (3 * l) group 0 (λ e. omega arith)
-        ∙ get_or-set_other (set ls (3 * l) rank) (3 * l + 1) (3 * l) head 0 (λ e. omega arith)
-        ∙ get_or-set_same ls (3 * l) rank 0 (omega arith)
-
-    set_line_head : get_or (set_line ls l rank head group) (3 * l + 1) 0 ≡ head
-    unfolding set_line
-    set_line_head =
-        get_or-set_other (set (set ls (3 * l) rank) (3 * l + 1) head) (3 * l + 2) (3 * l + 1) group 0 (λ e. omega arith)
-        ∙ get_or-set_same (set ls (3 * l) rank) (3 * l + 1) head 0 (omega (arith, length-set ls (3 * l) rank))
-
-    set_line_group : get_or (set_line ls l rank head group) (3 * l + 2) 0 ≡ group
-    unfolding set_line
-    set_line_group =
-        get_or-set_same (set (set ls (3 * l) rank) (3 * l + 1) head) (3 * l + 2) group 0
-        (omega (arith, length-set ls (3 * l) rank, length-set (set ls (3 * l) rank) (3 * l + 1) head))
+use Rattle.justified.specs.declared.Line.{Line}
+use Rattle.justified.specs.ByLiteral.{no_line, line_in}
+use Rattle.ranks.specs.declared.Found.{Found}
+use Rattle.ranks.specs.Found.{Fit, rank_of, head_of, group_of, with_line, with_negation}
 
 -- lines stay as they are
 pub record Grown (st st' : Found) : Type 0 where
@@ -109,17 +80,24 @@ module _ (st : Found) (l head group : ℕ) (fit : Fit st) (below : l < 1024) whe
   pub line_cases : (x : ℕ) → T (member (with_line st l head group).ranked x) → (x ≡ l) ⊎ T (member st.ranked x)
   line_cases x m = with_cases (member st.ranked) l x (rw ranked_with at m)
 
-  has_room : 3 * l + 2 < length st.lines
-  has_room = let e = fit.room in omega arith
+  new_line : Line
+  new_line = record { rank = st.next_rank; head = head; group = group }
+
+  line_is : line_in (with_line st l head group).lines l ≡ new_line
+  unfolding new_line
+  line_is = get_or-set_same st.lines l new_line no_line (let e = fit.room in omega arith)
 
   pub line_rank : rank_of (with_line st l head group) l ≡ st.next_rank
-  line_rank = set_line_rank st.lines l st.next_rank head group has_room
+  unfolding new_line
+  line_rank = ap (λ (x : Line). x.rank) line_is
 
   pub line_head : head_of (with_line st l head group) l ≡ head
-  line_head = set_line_head st.lines l st.next_rank head group has_room
+  unfolding new_line
+  line_head = ap (λ (x : Line). x.head) line_is
 
   pub line_group : group_of (with_line st l head group) l ≡ group
-  line_group = set_line_group st.lines l st.next_rank head group has_room
+  unfolding new_line
+  line_group = ap (λ (x : Line). x.group) line_is
 
   module _ (new : T (not (member st.ranked l))) where
     one_counted : count 1024 (member (with_line st l head group).ranked) ≡ suc st.next_rank
@@ -132,22 +110,22 @@ module _ (st : Found) (l head group : ℕ) (fit : Fit st) (below : l < 1024) whe
     another : (x : ℕ) → T (member st.ranked x) → x ≢ l
     another x m e = T_not (member st.ranked l) new (subst (λ (z : ℕ). T (member st.ranked z)) e m)
 
+    same_line : (x : ℕ) → T (member st.ranked x) → line_in (with_line st l head group).lines x ≡ line_in st.lines x
+    same_line x m = get_or-set_other st.lines l x _ no_line (another x m)
+
     pub line_moves : Moves st (with_line st l head group)
     line_moves =
         record {
           fit = record {
             row = length_put_in st.ranked l ∙ fit.row;
-            room = set_line_length st.lines l st.next_rank head group ∙ fit.room;
+            room = length-set st.lines l _ ∙ fit.room;
             counted = let e = one_counted in omega arith;
           };
           grown = record {
             kept = λ x m. rw ranked_with (with_⊇ (member st.ranked) l x m);
-            same_rank = λ x m. let n = another x m in
-                set_line_other st.lines l st.next_rank head group (3 * x) (λ e. n (omega arith)) (λ e. omega arith) (λ e. omega arith);
-            same_head = λ x m. let n = another x m in
-                set_line_other st.lines l st.next_rank head group (3 * x + 1) (λ e. omega arith) (λ e. n (omega arith)) (λ e. omega arith);
-            same_group = λ x m. let n = another x m in
-                set_line_other st.lines l st.next_rank head group (3 * x + 2) (λ e. omega arith) (λ e. omega arith) (λ e. n (omega arith));
+            same_rank = λ x m. ap (λ (z : Line). z.rank) (same_line x m);
+            same_head = λ x m. ap (λ (z : Line). z.head) (same_line x m);
+            same_group = λ x m. ap (λ (z : Line). z.group) (same_line x m);
           };
           more = omega arith;
           still = λ e. absurd (omega arith);

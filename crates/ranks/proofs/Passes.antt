@@ -9,7 +9,8 @@ use Rattle.sets.proofs.Counting.{count≤}
 use Rattle.paper.specs.Rules.{Rule, HeadsBelow}
 use Rattle.paper.specs.Marking.{Marks}
 use Rattle.bits.specs.Sets.{member}
-use Rattle.ranks.specs.Found.{Found, Fit, over_rules, passes_of, found_at_rest}
+use Rattle.ranks.specs.declared.Found.{Found}
+use Rattle.ranks.specs.Found.{Fit, over_rules, passes_of, found_at_rest}
 use Rattle.ranks.proofs.Lines.{Moves}
 use Rattle.ranks.proofs.Rules.{pass_moves}
 

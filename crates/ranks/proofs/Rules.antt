@@ -15,19 +15,21 @@ use Rattle.paper.specs.Marking.{Marks}
 use Rattle.paper.specs.Fires.{fires}
 use Rattle.paper.proofs.Closure.{Fires, →fires}
 use Rattle.bits.specs.Sets.{member}
-use Rattle.least.specs.declared.WhichGroup.{WhichGroup}
-use Rattle.least.specs.declared.WhichGroup.TheVariants.{Number, None}
 use Rattle.least.specs.Groups.{GroupNumber, Wholly, WhichAllows, is_a_fact}
 use Rattle.least.proofs.Groups.{walk_allowed, named, number≤length, none_fires}
-use Rattle.ranks.specs.Found.{Found, Fit, CanAdd, with_line, answer_for, Adds, nothing_more, a_line, a_pair, lines_by, by_row, or_else_adds, by_clean, not_its_turn, adds_at, adding, at_rule, over_rules}
+use Rattle.ranks.specs.declared.Found.{Found}
+use Rattle.ranks.specs.declared.Adds.{Adds}
+use Rattle.ranks.specs.declared.Adds.TheVariants.{Nothing, OneLine, TwoLines}
+use Rattle.ranks.specs.Found.{as_pair, Fit, CanAdd, with_line, answer_for, line_by_group, line_by, or_else_adds, by_clean, not_its_turn, adds_at, adding, at_rule, over_rules}
 use Rattle.ranks.proofs.Lines.{Moves, moves_refl, moves_trans, line_moves, negation_too, negation_moves}
+use Rattle.std.specs.Prelude.{Some, None, Option}
 
 pub answer_allowed : (S : ℕ → Bool) (βs : List (List ℕ)) → WhichAllows S βs (answer_for S βs)
 answer_allowed S [] = is_a_fact refl
 answer_allowed S (β ∷ βs) = walk_allowed S (β ∷ βs) cons≢nil refl
 
 -- a group's number is at most how many there are
-answered≤length : (S : ℕ → Bool) {βs : List (List ℕ)} {g : ℕ} → WhichAllows S βs (Number g) → g ≤ length βs
+answered≤length : (S : ℕ → Bool) {βs : List (List ℕ)} {g : ℕ} → WhichAllows S βs (Some g) → g ≤ length βs
 answered≤length S {βs} {g} a =
     ⊎_elim (λ (f : (βs ≡ []) × (g ≡ 0)). let z = f.1 in omega arith)
     (λ (q : (β : List ℕ) × GroupNumber βs g β × Wholly S β). number≤length q.1) (named S a)
@@ -54,38 +56,38 @@ wrong_kind false false e h = h
 
 -- why a rule adds what it adds
 pub data Added (marked : Bool) (clean : List ℕ) (A : Marks) (st : Found) (ρ : Rule) : Adds → Type 0 where
-  not_due : T (not_its_turn marked A st.ranked ρ.head) → Added marked clean A st ρ nothing_more
-  no_group : WhichAllows (member st.ranked) ρ.groups None → Added marked clean A st ρ nothing_more
-  one_line : {g : ℕ} → Due marked A st ρ.head → WhichAllows (member (cond marked clean st.ranked)) ρ.groups (Number g)
-      → Added marked clean A st ρ (a_line g)
+  not_due : T (not_its_turn marked A st.ranked ρ.head) → Added marked clean A st ρ Nothing
+  no_group : WhichAllows (member st.ranked) ρ.groups None → Added marked clean A st ρ Nothing
+  one_line : {g : ℕ} → Due marked A st ρ.head → WhichAllows (member (cond marked clean st.ranked)) ρ.groups (Some g)
+      → Added marked clean A st ρ (OneLine g)
   two_lines : {g : ℕ} → marked ≡ true → Due marked A st ρ.head → WhichAllows (member clean) ρ.groups None
-      → WhichAllows (member st.ranked) ρ.groups (Number g) → Added marked clean A st ρ (a_pair g)
+      → WhichAllows (member st.ranked) ρ.groups (Some g) → Added marked clean A st ρ (TwoLines g)
 
 module _ (clean : List ℕ) (A : Marks) (st : Found) (ρ : Rule) where
-  added_unmarked : Due false A st ρ.head → Added false clean A st ρ (by_row 1 st.ranked ρ.groups)
-  unfolding by_row
+  added_unmarked : Due false A st ρ.head → Added false clean A st ρ (line_by st.ranked ρ.groups)
+  unfolding line_by
   added_unmarked d = go (answer_for (member st.ranked) ρ.groups) (answer_allowed (member st.ranked) ρ.groups)
     where
-      go : (w : WhichGroup) → WhichAllows (member st.ranked) ρ.groups w → Added false clean A st ρ (lines_by 1 w)
-      go (Number g) a = one_line d a
+      go : (w : Option ℕ) → WhichAllows (member st.ranked) ρ.groups w → Added false clean A st ρ (line_by_group w)
+      go (Some g) a = one_line d a
       go None a = no_group a
 
   added_inconsistent : Due true A st ρ.head → WhichAllows (member clean) ρ.groups None
-      → Added true clean A st ρ (by_row 2 st.ranked ρ.groups)
-  unfolding by_row
+      → Added true clean A st ρ (as_pair (line_by st.ranked ρ.groups))
+  unfolding line_by
   added_inconsistent d n = go (answer_for (member st.ranked) ρ.groups) (answer_allowed (member st.ranked) ρ.groups)
     where
-      go : (w : WhichGroup) → WhichAllows (member st.ranked) ρ.groups w → Added true clean A st ρ (lines_by 2 w)
-      go (Number g) a = two_lines refl d n a
+      go : (w : Option ℕ) → WhichAllows (member st.ranked) ρ.groups w → Added true clean A st ρ (as_pair (line_by_group w))
+      go (Some g) a = two_lines refl d n a
       go None a = no_group a
 
   added_marked : Due true A st ρ.head → Added true clean A st ρ (by_clean clean st.ranked ρ.groups)
-  unfolding by_clean by_row
+  unfolding by_clean line_by
   added_marked d = go (answer_for (member clean) ρ.groups) (answer_allowed (member clean) ρ.groups)
     where
-      go : (w : WhichGroup) → WhichAllows (member clean) ρ.groups w
-          → Added true clean A st ρ (or_else_adds (lines_by 1 w) (by_row 2 st.ranked ρ.groups))
-      go (Number g) a = one_line d a
+      go : (w : Option ℕ) → WhichAllows (member clean) ρ.groups w
+          → Added true clean A st ρ (or_else_adds (line_by_group w) (as_pair (line_by st.ranked ρ.groups)))
+      go (Some g) a = one_line d a
       go None a = added_inconsistent d a
 
   pub at_rule_lem : (marked : Bool) → Added marked clean A st ρ (adds_at marked clean A st.ranked ρ)
@@ -93,12 +95,12 @@ module _ (clean : List ℕ) (A : Marks) (st : Found) (ρ : Rule) where
   at_rule_lem marked = go (not_its_turn marked A st.ranked ρ.head) (λ t. not_due t) (λ t. kinds marked (due marked A st ρ.head t))
     where
       kinds : (m : Bool) → Due m A st ρ.head
-          → Added m clean A st ρ (cond m (by_clean clean st.ranked ρ.groups) (by_row 1 st.ranked ρ.groups))
+          → Added m clean A st ρ (cond m (by_clean clean st.ranked ρ.groups) (line_by st.ranked ρ.groups))
       kinds true d = added_marked d
       kinds false d = added_unmarked d
 
-      go : {f : Adds} (b : Bool) → (T b → Added marked clean A st ρ nothing_more) → (T (not b) → Added marked clean A st ρ f)
-          → Added marked clean A st ρ (cond b nothing_more f)
+      go : {f : Adds} (b : Bool) → (T b → Added marked clean A st ρ Nothing) → (T (not b) → Added marked clean A st ρ f)
+          → Added marked clean A st ρ (cond b Nothing f)
       go true x y = x tt
       go false x y = y tt
 

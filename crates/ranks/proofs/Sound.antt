@@ -20,13 +20,15 @@ use Rattle.paper.proofs.Leasts.{atom_negation}
 use Rattle.paper.proofs.Settled.{marked→𝐢, marked→member, held_head, unmarked→clean, clean→𝐭}
 use Rattle.paper.proofs.Values.{group_in_lem, group_𝐭, body≥, body_attained, 3≤code→𝐭, code2→𝐢}
 use Rattle.bits.specs.Sets.{member}
-use Rattle.least.specs.declared.WhichGroup.TheVariants.{Number, None}
 use Rattle.least.specs.Groups.{WhichAllows, OnlyGroup, the_fact, the_group}
 use Rattle.least.proofs.Groups.{number_fires, none_fires, which→supports, which→carries_𝐢}
 use Rattle.justified.specs.Justified.{Justified, by_6_or_7, by_8}
-use Rattle.ranks.specs.Found.{Found, Fit, rank_of, head_of, group_of, with_line, Adds, adding}
+use Rattle.ranks.specs.declared.Found.{Found}
+use Rattle.ranks.specs.declared.Adds.{Adds}
+use Rattle.ranks.specs.Found.{Fit, rank_of, head_of, group_of, with_line, adding}
 use Rattle.ranks.proofs.Lines.{Grown, Moves, line_ranked, line_cases, line_rank, line_head, line_group, line_moves, negation_below, NegationToo, had_one, gets_one, negation_too, negation_moves, negation_ranked, negation_cases}
 use Rattle.ranks.proofs.Rules.{Added, not_due, no_group, one_line, two_lines}
+use Rattle.std.specs.Prelude.{Some, None}
 
 -- where more literals stand before others, a justified line stays justified
 carries_mono : (I : Interpretation) {before before' : ℕ → ℕ → Type 0} {ρ : Rule} {v : Value}
@@ -127,7 +129,7 @@ module _ {R : List Rule} {I : Interpretation} where
       (mv.grown.kept ι m, line_ranked st l h g s.fit lt, omega arith)
 
 -- a rule for which a group was answered fires
-answered_fires : (S : ℕ → Bool) (ρ : Rule) {g : ℕ} → WhichAllows S ρ.groups (Number g) → Fires S ρ
+answered_fires : (S : ℕ → Bool) (ρ : Rule) {g : ℕ} → WhichAllows S ρ.groups (Some g) → Fires S ρ
 answered_fires S ρ {g} a = fires→ S ρ (true→T (fires S ρ) (sym (number_fires S ρ g a refl)))
 
 module _ (R : List Rule) (A : Marks) (I : Interpretation) (is_held_lem : IsHeld R A I) where
@@ -141,7 +143,7 @@ module _ (R : List Rule) (A : Marks) (I : Interpretation) (is_held_lem : IsHeld 
   module _ (below : HeadsBelow 512 R) where
     -- a line by a group of t literals that have lines
     line_by_𝐭 : (st : Found) (ρ : Rule) {g : ℕ} (S : ℕ → Bool) → Sound R I st → ρ ∈ R → T (not (member st.ranked ρ.head))
-        → S ⊆ member st.ranked → ((ι : ℕ) → T (S ι) → value I ι ≡ 𝐭) → WhichAllows S ρ.groups (Number g)
+        → S ⊆ member st.ranked → ((ι : ℕ) → T (S ι) → value I ι ≡ 𝐭) → WhichAllows S ρ.groups (Some g)
         → Sound R I (with_line st ρ.head ρ.head g)
     line_by_𝐭 st ρ {g} S s m new sub t a =
         let h : ℕ = ρ.head in
@@ -190,7 +192,7 @@ module _ (R : List Rule) (A : Marks) (I : Interpretation) (is_held_lem : IsHeld 
 
         module _ {st : Found} {ρ : Rule} (r : ρ ∈ R) (s : SoundMarked st) (new : T (not (member st.ranked ρ.head)))
             (marked : Marked A (atom ρ.head)) where
-          sound_by_clean : {g : ℕ} → WhichAllows (member clean) ρ.groups (Number g) → SoundMarked (with_line st ρ.head ρ.head g)
+          sound_by_clean : {g : ℕ} → WhichAllows (member clean) ρ.groups (Some g) → SoundMarked (with_line st ρ.head ρ.head g)
           sound_by_clean {g} a =
               let mv = line_moves st ρ.head ρ.head g s.sound.fit (below ρ r) new in
               record {
@@ -202,7 +204,7 @@ module _ (R : List Rule) (A : Marks) (I : Interpretation) (is_held_lem : IsHeld 
                     (line_cases st ρ.head ρ.head g s.sound.fit (below ρ r) σ.head i);
               }
 
-          module _ {g : ℕ} (n : WhichAllows (member clean) ρ.groups None) (a : WhichAllows (member st.ranked) ρ.groups (Number g)) where
+          module _ {g : ℕ} (n : WhichAllows (member clean) ρ.groups None) (a : WhichAllows (member st.ranked) ρ.groups (Some g)) where
             abbrev st₁ : Found
             st₁ = with_line st ρ.head ρ.head g
 

@@ -5,9 +5,10 @@ use Rattle.bits.specs.Sets.{member}
 use Rattle.index.specs.Placed.{Placed, placed_of}
 use Rattle.index.specs.Index.{IndexOf}
 use Rattle.pending.specs.Pending.{Whole, CountsAre}
+use Rattle.index.specs.declared.Index.{Index}
 
 -- the literals that have lines are counted, and there is a row for the heads of the groups that become whole
-pub record Counting (t x s woken counts : List ℕ) : Type 0 where
+pub record Counting (t : List ℕ) (x : Index) (s woken counts : List ℕ) : Type 0 where
   pub index : IndexOf t x
   pub row : length woken ≡ 16
   pub counted : CountsAre t (member s) counts

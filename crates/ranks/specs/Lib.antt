@@ -1,3 +1,4 @@
 -- The ranks, and the lines of a reason sheet.
 pub mod Found
 pub mod Counted
+pub mod KnownClean

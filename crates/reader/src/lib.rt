@@ -5,7 +5,7 @@ ghost use Rattle.refusal.specs.Numbers.{refusal};
 ghost use Rattle.reader.specs.Sheet.{starts_name, continues_name, name_run, may_follow, byte_before};
 ghost use Rattle.reader.specs.Readings.{ended_name, name_at, literal_at, line_at, reading_after, reading_at, place_after, next_at};
 
-use refusal::Refusal;
+use refusal::{Reason, Refusal};
 
 // Where a literal stands: at the start of a line, or in a group.
 #[derive(Clone, Copy)]
@@ -46,10 +46,10 @@ pub fn byte(sheet: &[u8], i: usize) -> u8
 }
 
 // A reading that refuses.
-fn refused(number: u64, at: usize) -> Reading
-    ensures { result ≡ Reading.Refused (refusal number at) }
+fn refused(reason: Reason, at: usize) -> Reading
+    ensures { result ≡ Reading.Refused (refusal reason at) }
 {
-    Reading::Refused(refusal::at(number, at))
+    Reading::Refused(refusal::at(reason, at))
 }
 
 fn starts_name(b: u8) -> bool
@@ -109,6 +109,7 @@ fn name_run(sheet: &[u8], q: usize) -> usize
     ensures result_in_bounds { q + result ≤ length sheet.now }
 {
     let mut n: usize = 0;
+    // As take_while and count the proof of the length did not close.
     while continues_name(byte(sheet, q + n)) {
         n += 1;
     }
@@ -120,7 +121,7 @@ fn ended_name(sheet: &[u8], q: usize, n: usize, negated: bool, role: Role) -> Re
     ensures { result ≡ ended_name sheet.now q n negated role }
 {
     if limits::MOST_NAME_BYTES < n {
-        return refused(refusal::NAME_TOO_LONG, q + limits::MOST_NAME_BYTES);
+        return refused(Reason::NameTooLong, q + limits::MOST_NAME_BYTES);
     }
     if may_follow(role, byte(sheet, q + n)) {
         Reading::Literal(SheetLiteral {
@@ -130,7 +131,7 @@ fn ended_name(sheet: &[u8], q: usize, n: usize, negated: bool, role: Role) -> Re
             role,
         })
     } else {
-        refused(refusal::WRONG_BYTE, q + n)
+        refused(Reason::WrongByte, q + n)
     }
 }
 
@@ -141,7 +142,7 @@ fn name_at(sheet: &[u8], q: usize, negated: bool, role: Role) -> Reading
     if starts_name(byte(sheet, q)) {
         ended_name(sheet, q, name_run(sheet, q), negated, role)
     } else {
-        refused(refusal::WRONG_BYTE, q)
+        refused(Reason::WrongByte, q)
     }
 }
 
@@ -191,7 +192,7 @@ fn reading_after(before: u8, sheet: &[u8], place: usize) -> Reading
     if before == b' ' {
         return literal_at(sheet, place, Role::Further);
     }
-    refused(refusal::WRONG_BYTE, place)
+    refused(Reason::WrongByte, place)
 }
 
 // What stands at a place of a sheet.
@@ -199,10 +200,10 @@ pub fn reading_at(sheet: &[u8], place: usize) -> Reading
     ensures { result ≡ reading_at sheet.now place }
 {
     if limits::MOST_SHEET_BYTES < sheet.len() {
-        return refused(refusal::SHEET_TOO_LONG, 0);
+        return refused(Reason::SheetTooLong, 0);
     }
     if sheet.len() < place {
-        return refused(refusal::WRONG_BYTE, sheet.len());
+        return refused(Reason::WrongByte, sheet.len());
     }
     reading_after(byte_before(sheet, place), sheet, place)
 }

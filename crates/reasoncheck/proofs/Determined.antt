@@ -13,8 +13,7 @@ use borrow.Author.Tests.{leb-true, leb-false}
 use Rattle.sets.specs.Sets.{◌∈◌}
 use Rattle.sets.proofs.First.{All, first_determined, all_or_first}
 use Rattle.refusal.specs.declared.Refusal.{Refusal}
-use Rattle.refusal.specs.declared.Checked.{Checked}
-use Rattle.refusal.specs.declared.Checked.TheVariants.{Accepted, Refused}
+use Rattle.refusal.specs.Checks.{Checked}
 use Rattle.refusal.specs.Numbers.{text_broken, line_not_justified, not_a_model}
 use Rattle.refusal.proofs.Laws.{refused≢accepted}
 use Rattle.paper.specs.Rules.{Rule}
@@ -28,6 +27,7 @@ use Rattle.reasontext.proofs.Texts.{good_lines}
 use Rattle.reasoncheck.specs.ReasonCheck.{check_fault, LineHolds, CheckAllows, is_broken, no_model, not_wanted, not_justified, accepts}
 use Rattle.reasoncheck.specs.Matching.{JudgeAllows, wants_another, not_all_hold, all_hold}
 use Rattle.reasoncheck.proofs.Matches.{apart_determined, same_not_apart}
+use Rattle.std.specs.Prelude.{Ok, Err}
 
 -- a beginning of a beginning is one
 shorter : (text : List ℕ) (p q : ℕ) → p ≤ q → Beginning (take q text) → Beginning (take p text)
@@ -67,16 +67,16 @@ model_determined (is_a_model m) (is_a_model m') = refl
 model_determined {I} {t} (is_a_model m) (is_none f) = absurd (all_or_first (Satisfied I) (each_satisfied I (records_of t) m) f)
 model_determined {I} {t} (is_none f) (is_a_model m) = absurd (all_or_first (Satisfied I) (each_satisfied I (records_of t) m) f)
 model_determined {I} {t} (is_none f) (is_none g) =
-    ap (λ (n : ℕ). Refused (not_a_model (length (words_of (take n (records_of t)))))) (first_determined (Satisfied I) f g)
+    ap (λ (n : ℕ). Err (not_a_model (length (words_of (take n (records_of t)))))) (first_determined (Satisfied I) f g)
 
 judge_determined : {R : List Rule} {I : Interpretation} {n : ℕ} {ls : List ReasonLine} {a b : Checked}
     → JudgeAllows R I n ls a → JudgeAllows R I n ls b → a ≡ b
-judge_determined (wants_another f) (wants_another g) = ap (λ (k : ℕ). Refused (line_not_justified (suc k))) (apart_determined f g)
+judge_determined (wants_another f) (wants_another g) = ap (λ (k : ℕ). Err (line_not_justified (suc k))) (apart_determined f g)
 judge_determined (wants_another f) (not_all_hold e g) = absurd (same_not_apart f e)
 judge_determined (wants_another f) (all_hold e g) = absurd (same_not_apart f e)
 judge_determined (not_all_hold e f) (wants_another g) = absurd (same_not_apart g e)
 judge_determined {R} {I} {n} {ls} (not_all_hold e f) (not_all_hold e' g) =
-    ap (λ (k : ℕ). Refused (line_not_justified (suc k))) (first_determined (LineHolds R I ls) f g)
+    ap (λ (k : ℕ). Err (line_not_justified (suc k))) (first_determined (LineHolds R I ls) f g)
 judge_determined {R} {I} {n} {ls} (not_all_hold e f) (all_hold e' g) = absurd (all_or_first (LineHolds R I ls) g f)
 judge_determined (all_hold e f) (wants_another g) = absurd (same_not_apart g e)
 judge_determined {R} {I} {n} {ls} (all_hold e f) (not_all_hold e' g) = absurd (all_or_first (LineHolds R I ls) f g)
@@ -84,19 +84,19 @@ judge_determined (all_hold e f) (all_hold e' g) = refl
 
 -- a text is broken or good
 data TextSays (text : List ℕ) : Checked → Type 0 where
-  says_broken : {p : ℕ} → Broken text p → TextSays text (Checked.Refused (text_broken p))
-  says_good : {ls : List ReasonLine} → IsReasonText text ls → TextSays text Checked.Accepted
+  says_broken : {p : ℕ} → Broken text p → TextSays text (Err (text_broken p))
+  says_good : {ls : List ReasonLine} → IsReasonText text ls → TextSays text (Ok tt)
 
 text_determined : {text : List ℕ} {a b : Checked} → TextSays text a → TextSays text b → a ≡ b
-text_determined (says_broken x) (says_broken y) = ap (λ (p : ℕ). Refused (text_broken p)) (broken_determined x y)
+text_determined (says_broken x) (says_broken y) = ap (λ (p : ℕ). Err (text_broken p)) (broken_determined x y)
 text_determined (says_broken x) (says_good {ls = ls} g) = absurd (x.not_good ls g)
 text_determined (says_good {ls = ls} g) (says_broken y) = absurd (y.not_good ls g)
 text_determined (says_good g) (says_good h) = refl
 
 -- one part after the other: the first that refuses decides
 data Then (part rest : Checked → Type 0) : Checked → Type 0 where
-  stops : {f : Refusal} → part (Checked.Refused f) → Then part rest (Checked.Refused f)
-  goes_on : {x : Checked} → part Checked.Accepted → rest x → Then part rest x
+  stops : {f : Refusal} → part (Err f) → Then part rest (Err f)
+  goes_on : {x : Checked} → part (Ok tt) → rest x → Then part rest x
 
 abbrev Determined : (Checked → Type 0) → Type 0
 Determined part = (a b : Checked) → part a → part b → a ≡ b
@@ -104,8 +104,8 @@ Determined part = (a b : Checked) → part a → part b → a ≡ b
 then_determined : {part rest : Checked → Type 0} → Determined part → Determined rest
     → {a b : Checked} → Then part rest a → Then part rest b → a ≡ b
 then_determined d e {a} {b} (stops p) (stops q) = d a b p q
-then_determined d e {a} {b} (stops {f = f} p) (goes_on q y) = absurd (refused≢accepted f (d a Accepted p q))
-then_determined d e {a} {b} (goes_on p x) (stops {f = f} q) = absurd (refused≢accepted f (d b Accepted q p))
+then_determined d e {a} {b} (stops {f = f} p) (goes_on q y) = absurd (refused≢accepted f (d a (Ok tt) p q))
+then_determined d e {a} {b} (goes_on p x) (stops {f = f} q) = absurd (refused≢accepted f (d b (Ok tt) q p))
 then_determined d e {a} {b} (goes_on p x) (goes_on q y) = e a b x y
 
 module _ (N : ℕ) (t values text : List ℕ) where

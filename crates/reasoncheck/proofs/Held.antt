@@ -16,9 +16,10 @@ use Rattle.sets.proofs.First.{All, first_behind}
 use Rattle.sets.proofs.Tests.{T→true, true→T, and_both}
 use Rattle.paper.specs.Rules.{Rule}
 use Rattle.paper.specs.Definitions.{Interpretation}
-use Rattle.refusal.specs.declared.Checked.{Checked}
+use Rattle.refusal.specs.Checks.{Checked}
 use Rattle.bits.specs.Sets.{member}
 use Rattle.justified.specs.Justified.{Justified}
+use Rattle.justified.specs.declared.Line.{Line}
 use Rattle.justified.specs.ByLiteral.{rank_in, head_in, group_in}
 use Rattle.grounds.specs.Grounds.{JustifiedLines}
 use Rattle.reasontext.specs.ReasonSheet.{ReasonLine}
@@ -90,7 +91,7 @@ split_codes (x ∷ ls) (a ∷ cs₀) b cs e =
       line_code = q.line_code;
     }
 
-module _ (R : List Rule) (I : Interpretation) (n : ℕ) (ls : List ReasonLine) (lines ok : List ℕ) (codes : literals_below I n ≡ codes_of ls)
+module _ (R : List Rule) (I : Interpretation) (n : ℕ) (ls : List ReasonLine) (lines : List Line) (ok : List ℕ) (codes : literals_below I n ≡ codes_of ls)
     (hold : LinesHold lines ls) (just : JustifiedLines R I lines (member ok)) where
   abbrev passes : ℕ → Bool
   passes l = leb (rank_in lines l) most_rank && member ok l

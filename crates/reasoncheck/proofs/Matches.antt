@@ -1,52 +1,27 @@
 -- The lines of a text matched with the literals that want them: one turn of the loop, and its end. Assumes nothing.
-use mathlib.Core.Bool.{Bool, true, false, true≢false, not, cond, ◌&&◌}
+use mathlib.Core.Bool.{Bool, true, false, true≢false, cond}
 use mathlib.Core.List.Memᴰ
 use mathlib.Core.List.{List, [], ◌∷◌, ◌++◌, map-append, append_assoc, append-nil, cons≢nil, head-eq_of_cons-eq, tail-eq_of_cons-eq}
 use mathlib.Core.Logic.{⊎_elim}
-use mathlib.Core.Path.{◌≡◌, refl, sym, ap, ap₂, ◌∙◌, subst, subst⁻¹}
+use mathlib.Core.Path.{◌≡◌, refl, sym, ap, ap₂, ◌∙◌, subst}
 use Prim.Native.Nat.{ℕ, zero, suc, ◌+◌, ◌*◌, ◌≤◌, ◌<◌}
 use native.Mathlib.Numerals.{add-one}
 use native.Mathlib.Omega.{arith}
 use native.Mathlib.Decide.{ℕ_discrete}
-use lib.Dec.{leb, eqb, leb→le, le→leb}
-use lib.ListN.{length, get_or, set, replicate, length-set, length-append}
+use lib.Dec.{eqb}
+use lib.ListN.{length, get_or, set, replicate, length-append}
+use Rattle.std.specs.Prelude.{Some, None, Ok, Err}
 use lib.Seq.{get_or-set_same, get_or-set_other}
 use borrow.Author.Tests.{eq-eqb, ne_eqb}
 use Rattle.sets.specs.Sets.{◌∈◌}
-use Rattle.sets.proofs.Tests.{same_tests→≡}
-use Rattle.paper.specs.Table1.{code}
-use Rattle.paper.specs.Definitions.{Interpretation, value}
-use Rattle.paper.proofs.Values.{member→2≤, 2≤→member}
-use Rattle.justified.specs.ByLiteral.{rank_in, head_in, group_in, with_line_of}
+use Rattle.paper.specs.Definitions.{Interpretation}
+use Rattle.justified.specs.declared.Line.{Line}
+use Rattle.justified.specs.ByLiteral.{no_line, line_in}
 use Rattle.reasontext.specs.ReasonSheet.{ReasonLine}
-use Rattle.refusal.specs.declared.Checked.{Checked}
+use Rattle.refusal.specs.Checks.{Checked}
 use Rattle.refusal.specs.Numbers.{line_not_justified}
 use Rattle.reasoncheck.specs.ReasonCheck.{literals_below, FirstApart, out_of_order, missing, surplus, further, codes_of, in_line_of}
-use Rattle.reasoncheck.specs.Matching.{MatchedOne, wants_none, has_its_own, has_not, NumbersHold, LinesHold, MatchAllows, all_matched, apart, LinesAllow, all_pass, first_fails}
-
-pub wants_is : (I : Interpretation) (l c : ℕ) → c ≡ code (value I l) → leb 2 c ≡ I l
-wants_is I l c e =
-    same_tests→≡ (leb 2 c) (I l) (λ t. let k = leb→le 2 c t in 2≤→member I l (omega arith)) (λ t. let k = member→2≤ I l t in
-    le→leb 2 c (omega arith))
-
-pub line_stored : (numbers s s₁ s₂ s₃ : List ℕ) (l k : ℕ) → s₁ ≡ set s (3 * l) (get_or numbers (4 * k + 1) 0)
-    → s₂ ≡ set s₁ (3 * l + 1) (get_or numbers (4 * k + 2) 0) → s₃ ≡ set s₂ (3 * l + 2) (get_or numbers (4 * k + 3) 0)
-    → s₃ ≡ with_line_of s l (get_or numbers (4 * k + 1) 0) (get_or numbers (4 * k + 2) 0) (get_or numbers (4 * k + 3) 0)
-line_stored numbers s s₁ s₂ s₃ l k e f g =
-    g ∙ ap (λ (x : List ℕ). set x (3 * l + 2) (get_or numbers (4 * k + 3) 0)) (f ∙ ap
-    (λ (x : List ℕ). set x (3 * l + 1) (get_or numbers (4 * k + 2) 0)) e)
-
-pub matched_own : (I : Interpretation) (numbers : List ℕ) (count : ℕ) (lines : List ℕ) (l k : ℕ) {b : Bool} {w : ℕ} {lines' : List ℕ}
-    → b ≡ I l → b ≡ true
-    → k < count → w ≡ get_or numbers (4 * k) 0 → w ≡ l
-    → lines' ≡ with_line_of lines l (get_or numbers (4 * k + 1) 0) (get_or numbers (4 * k + 2) 0) (get_or numbers (4 * k + 3) 0)
-    → MatchedOne I numbers count lines l k true (k + 1) lines'
-matched_own I numbers count lines l k eb e lt ew el es =
-    subst⁻¹ (MatchedOne I numbers count lines l k true (k + 1)) es (has_its_own (sym eb ∙ e) lt (sym ew ∙ el))
-
-pub matched_other : (I : Interpretation) (numbers : List ℕ) (count : ℕ) (lines : List ℕ) (l k : ℕ) {b : Bool} {w : ℕ} → b ≡ I l → b ≡ true
-    → w ≡ get_or numbers (4 * k) 0 → (w ≡ l → ⊥) → MatchedOne I numbers count lines l k false k lines
-matched_other I numbers count lines l k eb e ew n = has_not (sym eb ∙ e) (λ lt q. n (ew ∙ q))
+use Rattle.reasoncheck.specs.Matching.{line_numbered, MatchedOne, wants_none, has_its_own, has_not, NumbersHold, LinesHold, MatchAllows, all_matched, apart, LinesAllow, all_pass, first_fails}
 
 -- literals below n stand in order, and those from l on behind the ones below l
 pub below_less : (I : Interpretation) (n x : ℕ) → x ∈ literals_below I n → x < n
@@ -150,35 +125,15 @@ unfolding in_line_of
 in_none f l = refl
 
 -- a line stored by its literal
-module _ (lines : List ℕ) (l r h g : ℕ) where
-  stored_other : (i : ℕ) → (i ≡ 3 * l → ⊥) → (i ≡ 3 * l + 1 → ⊥) → (i ≡ 3 * l + 2 → ⊥) → get_or
-      (with_line_of lines l r h g) i 0 ≡ get_or lines i 0
-  stored_other i a b c =
-      get_or-set_other (set (set lines (3 * l) r) (3 * l + 1) h) (3 * l + 2) i g 0 c
-      ∙ get_or-set_other (set lines (3 * l) r) (3 * l + 1) i h 0 b ∙ get_or-set_other lines (3 * l) i r 0 a
+module _ (lines : List Line) (l : ℕ) (x : Line) where
+  stored_other : (i : ℕ) → (i ≡ l → ⊥) → line_in (set lines l x) i ≡ line_in lines i
+  stored_other i n = get_or-set_other lines l i x no_line n
 
-  module _ (fits : 3 * l + 3 ≤ length lines) where
-    stored_rank : rank_in (with_line_of lines l r h g) l ≡ r
-    stored_rank =
-        get_or-set_other (set (set lines (3 * l) r) (3 * l + 1) h) (3 * l + 2) (3 * l) g 0 (λ e. omega arith)
-        ∙ get_or-set_other (set lines (3 * l) r) (3 * l + 1) (3 * l) h 0 (λ e. omega arith) ∙ get_or-set_same lines (3 * l) r 0 (omega arith)
-
-    stored_head : head_in (with_line_of lines l r h g) l ≡ h
-    stored_head =
-        get_or-set_other (set (set lines (3 * l) r) (3 * l + 1) h) (3 * l + 2) (3 * l + 1) g 0 (λ e. omega arith)
-        ∙ get_or-set_same (set lines (3 * l) r) (3 * l + 1) h 0 (let e = length-set lines (3 * l) r in omega arith)
-
-    stored_group : group_in (with_line_of lines l r h g) l ≡ g
-    stored_group =
-        get_or-set_same (set (set lines (3 * l) r) (3 * l + 1) h) (3 * l + 2) g 0
-        (let e = length-set lines (3 * l) r in let f = length-set (set lines (3 * l) r) (3 * l + 1) h in omega arith)
-
-  length_stored : length (with_line_of lines l r h g) ≡ length lines
-  length_stored =
-      length-set (set (set lines (3 * l) r) (3 * l + 1) h) (3 * l + 2) g ∙ length-set (set lines (3 * l) r) (3 * l + 1) h ∙ length-set lines (3 * l) r
+  stored_same : l < length lines → line_in (set lines l x) l ≡ x
+  stored_same lt = get_or-set_same lines l x no_line lt
 
 -- the lines matched so far with the literals below l, and those to come
-pub record Matching (I : Interpretation) (ls : List ReasonLine) (l k : ℕ) (lines : List ℕ) : Type 0 where
+pub record Matching (I : Interpretation) (ls : List ReasonLine) (l k : ℕ) (lines : List Line) : Type 0 where
   pub done : List ReasonLine
   pub left : List ReasonLine
   pub split : ls ≡ done ++ left
@@ -186,12 +141,12 @@ pub record Matching (I : Interpretation) (ls : List ReasonLine) (l k : ℕ) (lin
   pub codes : codes_of done ≡ literals_below I l
   pub hold : LinesHold lines done
 
-zeros_at : (n i : ℕ) → ◌≡◌ {A = ℕ} (get_or (replicate n 0) i 0) 0
-zeros_at zero i = refl
-zeros_at (suc n) zero = refl
-zeros_at (suc n) (suc i) = zeros_at n i
+none_at : (n i : ℕ) → line_in (replicate n no_line) i ≡ no_line
+none_at zero i = refl
+none_at (suc n) zero = refl
+none_at (suc n) (suc i) = none_at n i
 
-pub matching_start : (I : Interpretation) (ls : List ReasonLine) → Matching I ls 0 0 (replicate 3072 0)
+pub matching_start : (I : Interpretation) (ls : List ReasonLine) → Matching I ls 0 0 (replicate 1024 no_line)
 unfolding literals_below
 matching_start I ls =
     record {
@@ -201,9 +156,9 @@ matching_start I ls =
       count_is = refl;
       codes = refl;
       hold = record {
-        ranks = λ x. zeros_at 3072 (3 * x) ∙ sym (in_none (λ y. y.rank) x);
-        heads = λ x. zeros_at 3072 (3 * x + 1) ∙ sym (in_none (λ y. y.rule_head) x);
-        groups = λ x. zeros_at 3072 (3 * x + 2) ∙ sym (in_none (λ y. y.group) x);
+        ranks = λ x. ap (λ (z : Line). z.rank) (none_at 1024 x) ∙ sym (in_none (λ y. y.rank) x);
+        heads = λ x. ap (λ (z : Line). z.head) (none_at 1024 x) ∙ sym (in_none (λ y. y.rule_head) x);
+        groups = λ x. ap (λ (z : Line). z.group) (none_at 1024 x) ∙ sym (in_none (λ y. y.group) x);
       };
     }
 
@@ -212,7 +167,7 @@ length_codes [] = refl
 length_codes (x ∷ ls) = ap suc (length_codes ls)
 
 module _ (I : Interpretation) (numbers : List ℕ) (count : ℕ) (ls : List ReasonLine) (holds : NumbersHold numbers count ls) where
-  module _ (l k : ℕ) (lines : List ℕ) (w : Matching I ls l k lines) (small : k < 1024) where
+  module _ (l k : ℕ) (lines : List Line) (w : Matching I ls l k lines) (small : k < 1024) where
     -- the next line, where there is one
     next_line : k < count → (y : ReasonLine) × (rest : List ReasonLine) × (w.left ≡ y ∷ rest)
     next_line lt = go w.left refl
@@ -239,9 +194,7 @@ module _ (I : Interpretation) (numbers : List ℕ) (count : ℕ) (ls : List Reas
         omega arith
 
     taken : (y : ReasonLine) (rest : List ReasonLine) → w.left ≡ y ∷ rest → I l ≡ true → get_or numbers (4 * k) 0 ≡ l
-        → 3 * l + 3 ≤ length lines
-        → Matching I ls (suc l) (k + 1)
-        (with_line_of lines l (get_or numbers (4 * k + 1) 0) (get_or numbers (4 * k + 2) 0) (get_or numbers (4 * k + 3) 0))
+        → l < length lines → Matching I ls (suc l) (k + 1) (set lines l (line_numbered numbers k))
     taken y rest e wants own fits =
         let q = its_numbers y rest e in
         let el : y.literal ≡ l = sym q.0 ∙ own in
@@ -254,38 +207,35 @@ module _ (I : Interpretation) (numbers : List ℕ) (count : ℕ) (ls : List Reas
               ∙ sym (below_next I l wants);
           hold = record {
             ranks = λ x. elim (ℕ_discrete x l) [
-              | yes s ↦ rw s (stored_rank lines l _ _ _ fits ∙ q.1 ∙ sym (in_line (λ v. v.rank) w.done y [] l not_before el))
-              | no n ↦ stored_other lines l _ _ _ (3 * x) (λ s. omega arith) (λ s. omega arith) (λ s. omega arith) ∙ w.hold.ranks x
+              | yes s ↦ rw s (ap (λ (z : Line). z.rank) (stored_same lines l _ fits) ∙ q.1 ∙ sym (in_line (λ v. v.rank) w.done y [] l not_before el))
+              | no n ↦ ap (λ (z : Line). z.rank) (stored_other lines l _ x n) ∙ w.hold.ranks x
                   ∙ sym (in_others (λ v. v.rank) w.done y x (λ s. n (sym s ∙ el)))
             ];
             heads = λ x. elim (ℕ_discrete x l) [
-              | yes s ↦ rw s (stored_head lines l _ _ _ fits ∙ q.2 ∙ sym (in_line (λ v. v.rule_head) w.done y [] l not_before el))
-              | no n ↦ stored_other lines l _ _ _ (3 * x + 1) (λ s. omega arith) (λ s. omega arith) (λ s. omega arith) ∙ w.hold.heads x
+              | yes s ↦
+                  rw s (ap (λ (z : Line). z.head) (stored_same lines l _ fits) ∙ q.2
+                  ∙ sym (in_line (λ v. v.rule_head) w.done y [] l not_before el))
+              | no n ↦ ap (λ (z : Line). z.head) (stored_other lines l _ x n) ∙ w.hold.heads x
                   ∙ sym (in_others (λ v. v.rule_head) w.done y x (λ s. n (sym s ∙ el)))
             ];
             groups = λ x. elim (ℕ_discrete x l) [
-              | yes s ↦ rw s (stored_group lines l _ _ _ fits ∙ q.3 ∙ sym (in_line (λ v. v.group) w.done y [] l not_before el))
-              | no n ↦ stored_other lines l _ _ _ (3 * x + 2) (λ s. omega arith) (λ s. omega arith) (λ s. omega arith) ∙ w.hold.groups x
+              | yes s ↦ rw s (ap (λ (z : Line). z.group) (stored_same lines l _ fits) ∙ q.3 ∙ sym (in_line (λ v. v.group) w.done y [] l not_before el))
+              | no n ↦ ap (λ (z : Line). z.group) (stored_other lines l _ x n) ∙ w.hold.groups x
                   ∙ sym (in_others (λ v. v.group) w.done y x (λ s. n (sym s ∙ el)))
             ];
           };
         }
 
-    pub matching_next : {k' : ℕ} {lines' : List ℕ} {b : Bool} → 3 * l + 3 ≤ length lines
-        → MatchedOne I numbers count lines l k b k' lines' → b ≡ true
+    pub matching_next : {k' : ℕ} {lines' : List Line} → l < length lines → MatchedOne I numbers count lines l k (Some k') lines'
         → Matching I ls (suc l) k' lines'
-    matching_next fits (wants_none e) t =
+    matching_next fits (wants_none e) =
         record { done = w.done; left = w.left; split = w.split; count_is = w.count_is; codes = w.codes ∙ sym (below_same I l e); hold = w.hold }
-    matching_next fits (has_its_own e lt own) t = let q = next_line lt in taken q.0 q.1 q.2 e own fits
-    matching_next fits (has_not e f) t = absurd (true≢false (sym t))
+    matching_next fits (has_its_own e lt own) = let q = next_line lt in taken q.0 q.1 q.2 e own fits
 
     -- what is wanted and what is there, behind what was matched
-    pub matching_apart : (n : ℕ) {k' : ℕ} {lines' : List ℕ} {b : Bool} → l < n → MatchedOne I numbers count lines l k b k' lines'
-        → b ≡ false
+    pub matching_apart : (n : ℕ) {lines' : List Line} → l < n → MatchedOne I numbers count lines l k None lines'
         → FirstApart (literals_below I n) (codes_of ls) k
-    matching_apart n lt (wants_none e) t = absurd (true≢false t)
-    matching_apart n lt (has_its_own e c o) t = absurd (true≢false t)
-    matching_apart n lt (has_not e f) t =
+    matching_apart n lt (has_not e f) =
         let q = below_split I n (suc l) (omega arith) in
         let wanted : literals_below I n ≡ codes_of w.done ++ l ∷ q.0 =
         q.1 ∙ ap (λ (x : List ℕ). x ++ q.0) (below_next I l e ∙ ap (λ (x : List ℕ). x ++ l ∷ []) (sym w.codes)) ∙ append_assoc
@@ -309,7 +259,7 @@ module _ (I : Interpretation) (numbers : List ℕ) (count : ℕ) (ls : List Reas
                 omega arith
 
   -- all literals were looked at
-  pub matching_surplus : (n l k : ℕ) (lines : List ℕ) → l ≡ n → Matching I ls l k lines → k < count → FirstApart (literals_below I n)
+  pub matching_surplus : (n l k : ℕ) (lines : List Line) → l ≡ n → Matching I ls l k lines → k < count → FirstApart (literals_below I n)
       (codes_of ls) k
   matching_surplus n l k lines el w lt =
       let there : codes_of ls ≡ codes_of w.done ++ codes_of w.left =
@@ -326,7 +276,7 @@ module _ (I : Interpretation) (numbers : List ℕ) (count : ℕ) (ls : List Reas
           let c = holds.count_is in
           absurd (omega arith)
 
-  pub matching_all : (n l k : ℕ) (lines : List ℕ) → l ≡ n → Matching I ls l k lines → count ≤ k → MatchAllows I n ls Checked.Accepted lines
+  pub matching_all : (n l k : ℕ) (lines : List Line) → l ≡ n → Matching I ls l k lines → count ≤ k → MatchAllows I n ls (Ok tt) lines
   matching_all n l k lines el w le =
       let e : w.done ≡ ls = sym (w.split ∙ ap (λ (r : List ReasonLine). w.done ++ r) (none w.left refl) ∙ append-nil w.done) in
       all_matched (ap (literals_below I) (sym el) ∙ sym w.codes ∙ ap codes_of e) (subst (LinesHold lines) e w.hold)
@@ -354,40 +304,33 @@ module _ (I : Interpretation) (passes : ℕ → Bool) where
   counted l k true e h = let a = ap length (below_next I l e) in let c = length-append (literals_below I l) (l ∷ []) in omega arith
   counted l k false e h = h ∙ ap length (sym (below_same I l e))
 
-  pub passing_next : (l k k' : ℕ) {b : Bool} → Passing I passes l k → b ≡ (I l && not (passes l)) → b ≡ false → k' ≡ cond (I l)
-      (k + 1) k → Passing I passes (l + 1) k'
-  passing_next l k k' w eb e ek =
+  pub passing_unwanted : (l k : ℕ) → Passing I passes l k → I l ≡ false → Passing I passes (l + 1) k
+  passing_unwanted l k w e =
       rw (add-one l) record {
-        count_is = ek ∙ counted l k (I l) refl w.count_is;
-        pass = λ m lt wants. elim (ℕ_discrete m l) [ yes s ↦ rw s (here (passes l) refl (rw s at wants)) | no n ↦ w.pass m (omega arith) wants ];
+        count_is = counted l k false e w.count_is;
+        pass = λ m lt wants. elim (ℕ_discrete m l) [ yes s ↦ absurd (true≢false (sym (rw s at wants) ∙ e)) | no n ↦ w.pass m (omega arith) wants ];
       }
-    where
-      here : (p : Bool) → passes l ≡ p → I l ≡ true → passes l ≡ true
-      here true s wants = s
-      here false s wants = absurd (true≢false (sym (eb ∙ rw (wants, s) refl) ∙ e))
 
-  pub passing_fails : (n l k : ℕ) {b : Bool} → l < n → Passing I passes l k → b ≡ (I l && not (passes l)) → b ≡ true
-      → LinesAllow I passes n (Checked.Refused (line_not_justified (k + 1)))
-  passing_fails n l k lt w eb e =
-      let q = Rattle.sets.proofs.Tests.and_both (I l) (not (passes l)) (sym eb ∙ e) in
-      rw (add-one k, w.count_is) (first_fails l lt q.0 (borrow.Author.Tests.not-true (passes l) q.1) w.pass)
+  pub passing_next : (l k : ℕ) → Passing I passes l k → I l ≡ true → passes l ≡ true → Passing I passes (l + 1) (k + 1)
+  passing_next l k w e p =
+      rw (add-one l) record {
+        count_is = counted l k true e w.count_is;
+        pass = λ m lt wants. elim (ℕ_discrete m l) [ yes s ↦ rw s p | no n ↦ w.pass m (omega arith) wants ];
+      }
 
-  pub passing_end : (n l k : ℕ) → n ≤ l → Passing I passes l k → LinesAllow I passes n Checked.Accepted
+  pub passing_fails : (n l k : ℕ) → l < n → Passing I passes l k → I l ≡ true → passes l ≡ false
+      → LinesAllow I passes n (Err (line_not_justified (k + 1)))
+  passing_fails n l k lt w e p = rw (add-one k, w.count_is) (first_fails l lt e p w.pass)
+
+  pub passing_end : (n l k : ℕ) → n ≤ l → Passing I passes l k → LinesAllow I passes n (Ok tt)
   passing_end n l k le w = all_pass (λ m lt wants. w.pass m (omega arith) wants)
 
-pub one_count : {I : Interpretation} {numbers : List ℕ} {count : ℕ} {lines : List ℕ} {l k k' : ℕ} {b : Bool} {lines' : List ℕ}
-    → MatchedOne I numbers count lines l k b k' lines' → k' ≤ k + 1
+pub one_count : {I : Interpretation} {numbers : List ℕ} {count : ℕ} {lines : List Line} {l k k' : ℕ} {lines' : List Line}
+    → MatchedOne I numbers count lines l k (Some k') lines' → k' ≤ k + 1
 one_count (wants_none e) = omega arith
 one_count (has_its_own e lt o) = omega arith
-one_count (has_not e f) = omega arith
 
-pub one_length : {I : Interpretation} {numbers : List ℕ} {count : ℕ} {lines : List ℕ} {l k k' : ℕ} {b : Bool} {lines' : List ℕ}
-    → MatchedOne I numbers count lines l k b k' lines' → length lines' ≡ length lines
-one_length (wants_none e) = refl
-one_length {lines = lines} {l = l} (has_its_own e lt o) = length_stored lines l _ _ _
-one_length (has_not e f) = refl
-
-pub apart_at : {I : Interpretation} {n : ℕ} {ls : List ReasonLine} {k : ℕ} {lines : List ℕ} {r : Checked} → r ≡ Checked.Refused
+pub apart_at : {I : Interpretation} {n : ℕ} {ls : List ReasonLine} {k : ℕ} {lines : List Line} {r : Checked} → r ≡ Err
     (line_not_justified (k + 1))
     → FirstApart (literals_below I n) (codes_of ls) k → MatchAllows I n ls r lines
 apart_at {k = k} e f = rw (e, add-one k) (apart f)

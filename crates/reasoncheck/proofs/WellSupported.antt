@@ -13,8 +13,6 @@ use borrow.Author.Tests.{eq-eqb, ne_eqb}
 use Rattle.limits.specs.Limits.{most_reason_bytes}
 use Rattle.sets.specs.Sets.{◌∈◌}
 use Rattle.sets.proofs.Tests.{T→true, true→T}
-use Rattle.refusal.specs.declared.Checked.{Checked}
-use Rattle.refusal.specs.declared.Checked.TheVariants.{Accepted}
 use Rattle.paper.specs.Definitions.{Interpretation, Model, WellSupportedBy, WellSupported}
 use Rattle.words.specs.Layout.{rules_of}
 use Rattle.words.proofs.Laws.{accepted_within}
@@ -29,6 +27,7 @@ use Rattle.reasontext.proofs.Printing.{length_line}
 use Rattle.reasoncheck.specs.ReasonCheck.{check_fault, literals_below, codes_of, in_line_of, SmallerRank, LineHolds, CheckAllows, accepts}
 use Rattle.reasoncheck.proofs.Matches.{below_less, below_in, below_length}
 use Rattle.reasoncheck.proofs.Checks.{check_sound}
+use Rattle.std.specs.Prelude.{Ok}
 
 in_below : (I : Interpretation) (n l : ℕ) → l < n → T (I l) → l ∈ literals_below I n
 unfolding literals_below
@@ -77,7 +76,7 @@ module _ (rank head group : ℕ → ℕ) where
       let s = length-append (line_text (line_for l)) (reason_text (map line_for ls)) in
       omega arith
 
-  module _ (N : ℕ) (t values : List ℕ) (fine : check_fault N t values ≡ Accepted) (model : Model (rules_of t) (given N values))
+  module _ (N : ℕ) (t values : List ℕ) (fine : check_fault N t values ≡ Ok tt) (model : Model (rules_of t) (given N values))
       (small : (l : ℕ) → T (given N values l) → (rank l < 1024) × (head l < 1024) × (group l ≤ 64))
       (justified : (l : ℕ) → T (given N values l) → Justified (rules_of t) (given N values) (λ x y. rank x < rank y) l (head l) (group l)) where
     abbrev I : Interpretation
@@ -118,7 +117,7 @@ module _ (rank head group : ℕ → ℕ) where
           justified = justified_on I (λ a b ma mb k. rw (rank_of_lem a ma, rank_of_lem b mb) k) (in_I s.0 s.1) (justified s.0 (in_I s.0 s.1));
         })
 
-    pub sheet_accepted : CheckAllows N t values (reason_text (map line_for (literals_below (given N values) (2 * N)))) Checked.Accepted
+    pub sheet_accepted : CheckAllows N t values (reason_text (map line_for (literals_below (given N values) (2 * N)))) (Ok tt)
     sheet_accepted = accepts fine (map line_for wanted) good model (sym (codes_back wanted)) holds
 
     pub sheet_short : length (reason_text (map line_for (literals_below (given N values) (2 * N)))) ≤ most_reason_bytes
@@ -129,7 +128,7 @@ module _ (rank head group : ℕ → ℕ) where
         omega arith
 
 -- an accepted text's ranks are an order by which the values are well-supported
-pub accepted→well_supported : (N : ℕ) (t values text : List ℕ) → CheckAllows N t values text Checked.Accepted
+pub accepted→well_supported : (N : ℕ) (t values text : List ℕ) → CheckAllows N t values text (Ok tt)
     → (ls : List ReasonLine) × IsReasonText text ls × WellSupportedBy (rules_of t) (given N values) (SmallerRank ls)
 accepted→well_supported N t values text (accepts fine ls good model codes holds) = (
   ls,
@@ -145,8 +144,8 @@ accepted→well_supported N t values text (accepts fine ls good model codes hold
 )
 
 -- and well-supported values, whatever the order, have a sheet that is accepted
-pub well_supported→accepted : (N : ℕ) (t values : List ℕ) → check_fault N t values ≡ Accepted → WellSupported (rules_of t) (given N values)
-    → (text : List ℕ) × (length text ≤ most_reason_bytes) × CheckAllows N t values text Checked.Accepted
+pub well_supported→accepted : (N : ℕ) (t values : List ℕ) → check_fault N t values ≡ Ok tt → WellSupported (rules_of t) (given N values)
+    → (text : List ℕ) × (length text ≤ most_reason_bytes) × CheckAllows N t values text (Ok tt)
 well_supported→accepted N t values fine ws =
     let s = check_sound N t values fine in
     let q : RankedLines (rules_of t) (given N values) N 64 =

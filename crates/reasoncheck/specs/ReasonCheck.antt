@@ -1,13 +1,11 @@
 -- Believed: the checker of a reason sheet: 1, 2, 3, words, 20, 21, 34, 22, else accepted.
-use Rattle.std.specs.Prelude.{cond, List, [], ◌∷◌, ◌++◌, map, ◌≡◌, ℕ, zero, suc, ◌*◌, ◌≤◌, ◌<◌, leb, eqb, length, take}
+use Rattle.std.specs.Prelude.{cond, List, [], ◌∷◌, ◌++◌, map, ◌≡◌, ℕ, zero, suc, ◌*◌, ◌≤◌, ◌<◌, leb, eqb, length, take, Ok, Err}
 use Rattle.limits.specs.Limits.{most_rank}
 use Rattle.sets.specs.Sets.{◌∈◌}
 use Rattle.sets.specs.First.{FirstNot}
 use Rattle.refusal.specs.declared.Refusal.{Refusal}
-use Rattle.refusal.specs.declared.Checked.{Checked}
-use Rattle.refusal.specs.declared.Checked.TheVariants.{Accepted, Refused}
+use Rattle.refusal.specs.Checks.{Checked, asking, or_else}
 use Rattle.refusal.specs.Numbers.{not_a_truth_code, text_broken, line_not_justified}
-use Rattle.refusal.specs.Checks.{asking, or_else}
 use Rattle.paper.specs.Rules.{Rule}
 use Rattle.paper.specs.Definitions.{Interpretation, Model}
 use Rattle.words.specs.Layout.{rules_of}
@@ -19,7 +17,7 @@ use Rattle.evaluation.specs.Evaluation.{evaluation_fault}
 
 -- 20: a value code above 3; the codes from atom a on
 unfoldable pub codes_fault : ℕ → List ℕ → Checked
-codes_fault a [] = Accepted
+codes_fault a [] = Ok tt
 codes_fault a (v ∷ vs) = asking (leb v 3) (not_a_truth_code a) (codes_fault (suc a) vs)
 
 -- 1, 2, 3, words, 20
@@ -56,18 +54,18 @@ pub record LineHolds (R : List Rule) (I : Interpretation) (ls : List ReasonLine)
   pub justified : Justified R I (SmallerRank ls) x.literal x.rule_head x.group
 
 pub data CheckAllows (N : ℕ) (t values text : List ℕ) : Checked → Type 0 where
-  refused : {f : Refusal} → check_fault N t values ≡ Refused f → CheckAllows N t values text (Checked.Refused f)
-  is_broken : check_fault N t values ≡ Accepted → {p : ℕ} → Broken text p → CheckAllows N t values text (Checked.Refused (text_broken p))
-  no_model : check_fault N t values ≡ Accepted → (ls : List ReasonLine) → IsReasonText text ls
-      → {f : Refusal} → ModelAllows (given N values) t (Checked.Refused f) → CheckAllows N t values text (Checked.Refused f)
-  not_wanted : check_fault N t values ≡ Accepted → (ls : List ReasonLine) → IsReasonText text ls → Model (rules_of t) (given N values)
+  refused : {f : Refusal} → check_fault N t values ≡ Err f → CheckAllows N t values text (Err f)
+  is_broken : check_fault N t values ≡ Ok tt → {p : ℕ} → Broken text p → CheckAllows N t values text (Err (text_broken p))
+  no_model : check_fault N t values ≡ Ok tt → (ls : List ReasonLine) → IsReasonText text ls
+      → {f : Refusal} → ModelAllows (given N values) t (Err f) → CheckAllows N t values text (Err f)
+  not_wanted : check_fault N t values ≡ Ok tt → (ls : List ReasonLine) → IsReasonText text ls → Model (rules_of t) (given N values)
       → {n : ℕ} → FirstApart (literals_below (given N values) (2 * N)) (codes_of ls) n
-      → CheckAllows N t values text (Checked.Refused (line_not_justified (suc n)))
-  not_justified : check_fault N t values ≡ Accepted → (ls : List ReasonLine) → IsReasonText text ls → Model (rules_of t) (given N values)
+      → CheckAllows N t values text (Err (line_not_justified (suc n)))
+  not_justified : check_fault N t values ≡ Ok tt → (ls : List ReasonLine) → IsReasonText text ls → Model (rules_of t) (given N values)
       → literals_below (given N values) (2 * N) ≡ codes_of ls
       → {n : ℕ} → FirstNot (LineHolds (rules_of t) (given N values) ls) ls n
-      → CheckAllows N t values text (Checked.Refused (line_not_justified (suc n)))
-  accepts : check_fault N t values ≡ Accepted → (ls : List ReasonLine) → IsReasonText text ls → Model (rules_of t) (given N values)
+      → CheckAllows N t values text (Err (line_not_justified (suc n)))
+  accepts : check_fault N t values ≡ Ok tt → (ls : List ReasonLine) → IsReasonText text ls → Model (rules_of t) (given N values)
       → literals_below (given N values) (2 * N) ≡ codes_of ls
       → ((x : ReasonLine) → x ∈ ls → LineHolds (rules_of t) (given N values) ls x)
-      → CheckAllows N t values text Checked.Accepted
+      → CheckAllows N t values text (Ok tt)

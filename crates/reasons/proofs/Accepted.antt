@@ -13,9 +13,6 @@ use Rattle.limits.specs.Limits.{most_reason_bytes}
 use Rattle.sets.specs.Sets.{◌∈◌}
 use Rattle.sets.proofs.Tests.{true→T, same_tests→≡, refuted→false}
 use Rattle.sets.proofs.Besides.{with_cases}
-use Rattle.refusal.specs.declared.Checked.{Checked}
-use Rattle.refusal.specs.declared.Checked.TheVariants.{Accepted}
-use Rattle.refusal.specs.declared.Numbered.{Numbered}
 use Rattle.refusal.specs.Checks.{or_else}
 use Rattle.paper.specs.Table1.{Value, 𝐟, 𝐮, 𝐢, 𝐭, code}
 use Rattle.paper.specs.Rules.{Rule, HeadsBelow, atom, positive, negative, negation}
@@ -43,6 +40,8 @@ use Rattle.reasoncheck.proofs.Matches.{below_less, below_in, below_length}
 use Rattle.reasoncheck.proofs.WellSupported.{line_for, short_lines, sheet_accepted}
 use Rattle.reasons.specs.Sheet.{lines_found, sheet_by}
 use Rattle.reasons.specs.Reasons.{ReasonsAllows, refused, no_room, writes}
+use Rattle.std.specs.Prelude.{Ok, Result}
+use Rattle.refusal.specs.declared.Refusal.{Refusal}
 
 -- what is held is of the first N atoms
 module _ (R : List Rule) (N : ℕ) (below : HeadsBelow N R) where
@@ -103,13 +102,13 @@ code≤3 𝐮 = omega arith
 code≤3 𝐢 = omega arith
 code≤3 𝐭 = omega arith
 
-codes_fine : (v : ℕ → Value) (a b n : ℕ) → codes_fault b (codes_from v a n) ≡ Accepted
+codes_fine : (v : ℕ → Value) (a b n : ℕ) → codes_fault b (codes_from v a n) ≡ Ok tt
 unfolding codes_fault codes_from
 codes_fine v a b zero = refl
 codes_fine v a b (suc n) = rw (le-leb (code (v a)) 3 (code≤3 (v a))) (codes_fine v (suc a) (suc b) n)
 
-values_fine : (v : ℕ → Value) (N : ℕ) (t room : List ℕ) → evaluation_fault N t (length room) ≡ Accepted → check_fault N t
-    (written v N room) ≡ Accepted
+values_fine : (v : ℕ → Value) (N : ℕ) (t room : List ℕ) → evaluation_fault N t (length room) ≡ Ok tt → check_fault N t
+    (written v N room) ≡ Ok tt
 unfolding check_fault
 values_fine v N t room e =
     let q = (evaluation_accepted N t (length room) e).2 in
@@ -172,10 +171,10 @@ module _ (N : ℕ) (t : List ℕ) (table : AcceptedTable N t) {n : ℕ} (A : Mar
       subst (IsHeld R A) (smallest_is_unique R (held_set R A) I (settled_is_smallest R one_rule marking settled (held_set R A) (held_set_is R A))
       ((smallest_by_test R one_rule I).0 s)) (held_set_is R A)
 
-  pub sheet_of_evaluation : (room values : List ℕ) → EvaluationAllows N t room Checked.Accepted values
-      → CheckAllows N t values (sheet_by N (rules_of t) A) Checked.Accepted
+  pub sheet_of_evaluation : (room values : List ℕ) → EvaluationAllows N t room (Ok tt) values
+      → CheckAllows N t values (sheet_by N (rules_of t) A) (Ok tt)
   sheet_of_evaluation room values o =
-      let q = evaluated_is N t room values Checked.Accepted o refl in
+      let q = evaluated_is N t room values (Ok tt) o refl in
       let I : Interpretation = q.1.0 in
       let v : (ℕ → Value) = λ a. value I (positive a) in
       let hI = held_of I q.1.1 in
@@ -196,20 +195,21 @@ begins room sheet le =
     ∙ take-append_seam sheet (drop (0 + length sheet) room)
 
 -- the writer's sheet with evaluation's values is accepted
-pub own_sheet_accepted : (N : ℕ) (t room values-room : List ℕ) {x : Numbered} {k : ℕ} {room' values : List ℕ} → ReasonsAllows N t room x room'
-    → x ≡ Numbered.Number k
-    → EvaluationAllows N t values-room Checked.Accepted values → CheckAllows N t values (take k room') Checked.Accepted
+pub own_sheet_accepted : (N : ℕ) (t room values-room : List ℕ) {x : Result ℕ Refusal} {k : ℕ} {room' values : List ℕ}
+    → ReasonsAllows N t room x room'
+    → x ≡ Ok k
+    → EvaluationAllows N t values-room (Ok tt) values → CheckAllows N t values (take k room') (Ok tt)
 own_sheet_accepted N t room vs (refused e) s o = let z : ◌≡◌ {A = ℕ} 0 1 = cc in absurd (omega arith)
 own_sheet_accepted N t room vs (no_room e A m st lt) s o = let z : ◌≡◌ {A = ℕ} 0 1 = cc in absurd (omega arith)
 own_sheet_accepted N t room vs {k = k} {values = values} (writes e A m st le) s o =
     let sheet : List ℕ = sheet_by N (rules_of t) A in
     let ek : length sheet ≡ k = cc in
-    subst (λ (x : ℕ). CheckAllows N t values (take x (sets room 0 sheet)) Checked.Accepted) ek
-    (subst⁻¹ (λ (x : List ℕ). CheckAllows N t values x Checked.Accepted) (begins room sheet le) (sheet_of_evaluation N t e A m st vs values o))
+    subst (λ (x : ℕ). CheckAllows N t values (take x (sets room 0 sheet)) (Ok tt)) ek
+    (subst⁻¹ (λ (x : List ℕ). CheckAllows N t values x (Ok tt)) (begins room sheet le) (sheet_of_evaluation N t e A m st vs values o))
 
 -- and a length that the writer answers, or asks for by 15, is at most 18,432
-pub own_sheet_short : (N : ℕ) (t room : List ℕ) {x : Numbered} {k : ℕ} {room' : List ℕ} → ReasonsAllows N t room x room'
-    → (x ≡ Numbered.Number k) → k ≤ most_reason_bytes
+pub own_sheet_short : (N : ℕ) (t room : List ℕ) {x : Result ℕ Refusal} {k : ℕ} {room' : List ℕ} → ReasonsAllows N t room x room'
+    → (x ≡ Ok k) → k ≤ most_reason_bytes
 own_sheet_short N t room (refused e) s = let z : ◌≡◌ {A = ℕ} 0 1 = cc in absurd (omega arith)
 own_sheet_short N t room (no_room e A m st lt) s = let z : ◌≡◌ {A = ℕ} 0 1 = cc in absurd (omega arith)
 own_sheet_short N t room {k = k} (writes e A m st le) s =

@@ -8,37 +8,32 @@ use native.Mathlib.Omega.{arith}
 use lib.ListN.{length, length-append}
 use lib.Seq.{sets, length-sets}
 use Rattle.bits.specs.Sets.{member}
-use Rattle.justified.specs.ByLiteral.{rank_in, head_in, group_in}
+use Rattle.ranks.specs.declared.Found.{Found}
 use Rattle.decimals.proofs.Stores.{sets_append}
-use Rattle.reasontext.specs.ReasonSheet.{ReasonLine, line, line_text, reason_text}
+use Rattle.reasontext.specs.ReasonSheet.{ReasonLine, line_text, reason_text}
 use Rattle.reasoncheck.specs.ReasonCheck.{literals_below}
 use Rattle.reasoncheck.proofs.Matches.{below_split}
 use Rattle.reasons.specs.Sheet.{line_found, lines_found, text_if}
-
--- the line as its numbers are read
-pub line_read : (lines : List ℕ) (l : ℕ) {r h g : ℕ} → r ≡ rank_in lines l → h ≡ head_in lines l → g ≡ group_in lines l
-    → line l r h g ≡ line_found lines l
-line_read lines l er eh eg = rw (er, eh, eg) refl
 
 pub text_append : (ms ls : List ReasonLine) → reason_text (ms ++ ls) ≡ reason_text ms ++ reason_text ls
 unfolding reason_text
 text_append [] ls = refl
 text_append (x ∷ ms) ls = ap (λ (z : List ℕ). line_text x ++ z) (text_append ms ls) ∙ sym (append_assoc (line_text x) (reason_text ms) (reason_text ls))
 
-module _ (ranked lines : List ℕ) where
+module _ (found : Found) where
   abbrev text : ℕ → List ℕ
-  text n = reason_text (lines_found ranked lines n)
+  text n = reason_text (lines_found found n)
 
-  pub sheet_next : (l : ℕ) → text (l + 1) ≡ text l ++ text_if ranked lines l
+  pub sheet_next : (l : ℕ) → text (l + 1) ≡ text l ++ text_if found l
   unfolding lines_found text_if literals_below reason_text
   sheet_next l =
       ap text (add-one l)
-      ∙ ap reason_text (map-append (line_found lines) (literals_below (member ranked) l) (cond (member ranked l) (l ∷ []) []))
-      ∙ text_append (map (line_found lines) (literals_below (member ranked) l)) (map (line_found lines) (cond (member ranked l) (l ∷ []) []))
-      ∙ ap (λ (z : List ℕ). text l ++ z) (last (member ranked l))
+      ∙ ap reason_text (map-append (line_found found) (literals_below (member found.ranked) l) (cond (member found.ranked l) (l ∷ []) []))
+      ∙ text_append (map (line_found found) (literals_below (member found.ranked) l)) (map (line_found found) (cond (member found.ranked l) (l ∷ []) []))
+      ∙ ap (λ (z : List ℕ). text l ++ z) (last (member found.ranked l))
     where
-      last : (b : Bool) → reason_text (map (line_found lines) (cond b (l ∷ []) [])) ≡ cond b (line_text (line_found lines l)) []
-      last true = append-nil (line_text (line_found lines l))
+      last : (b : Bool) → reason_text (map (line_found found) (cond b (l ∷ []) [])) ≡ cond b (line_text (line_found found l)) []
+      last true = append-nil (line_text (line_found found l))
       last false = refl
 
   pub sheet_start : text 0 ≡ []
@@ -49,42 +44,32 @@ module _ (ranked lines : List ℕ) where
   pub sheet_shorter : (l n : ℕ) → l ≤ n → length (text l) ≤ length (text n)
   unfolding lines_found
   sheet_shorter l n le =
-      let q = below_split (member ranked) n l le in
-      let e : text n ≡ text l ++ reason_text (map (line_found lines) q.0) =
-      ap (λ (z : List ℕ). reason_text (map (line_found lines) z)) q.1
-      ∙ ap reason_text (map-append (line_found lines) (literals_below (member ranked) l) q.0)
-      ∙ text_append (map (line_found lines) (literals_below (member ranked) l)) (map (line_found lines) q.0)
+      let q = below_split (member found.ranked) n l le in
+      let e : text n ≡ text l ++ reason_text (map (line_found found) q.0) =
+      ap (λ (z : List ℕ). reason_text (map (line_found found) z)) q.1
+      ∙ ap reason_text (map-append (line_found found) (literals_below (member found.ranked) l) q.0)
+      ∙ text_append (map (line_found found) (literals_below (member found.ranked) l)) (map (line_found found) q.0)
       in
       let a = ap length e in
-      let b = length-append (text l) (reason_text (map (line_found lines) q.0)) in
+      let b = length-append (text l) (reason_text (map (line_found found) q.0)) in
       omega arith
 
   -- one literal more
-  pub length_next : (l : ℕ) {total more : ℕ} → total ≡ length (text l) → more ≡ length (text_if ranked lines l) → total + more ≡ length
+  pub length_next : (l : ℕ) {total more : ℕ} → total ≡ length (text l) → more ≡ length (text_if found l) → total + more ≡ length
       (text (l + 1))
-  length_next l e f = let a = ap length (sheet_next l) in let b = length-append (text l) (text_if ranked lines l) in omega arith
+  length_next l e f = let a = ap length (sheet_next l) in let b = length-append (text l) (text_if found l) in omega arith
 
   module _ (room : List ℕ) (l n : ℕ) (lt : l < n) (fits : length (text n) ≤ length room) {room₁ : List ℕ} {at : ℕ} (ea : at ≡ length (text l))
       (er : room₁ ≡ sets room 0 (text l)) where
-    pub next_fits : at + length (text_if ranked lines l) ≤ length room₁
+    pub next_fits : at + length (text_if found l) ≤ length room₁
     next_fits =
         let a = sheet_shorter (l + 1) n (omega arith) in
         let b = length_next l ea refl in
         let c = ap length er ∙ length-sets room 0 (text l) in
         omega arith
 
-    pub next_put : {room₂ : List ℕ} → room₂ ≡ sets room₁ at (text_if ranked lines l) → room₂ ≡ sets room 0 (text (l + 1))
+    pub next_put : {room₂ : List ℕ} → room₂ ≡ sets room₁ at (text_if found l) → room₂ ≡ sets room 0 (text (l + 1))
     next_put e =
         let z : at ≡ 0 + length (text l) = omega arith in
-        e ∙ ap₂ (λ (x : List ℕ) (i : ℕ). sets x i (text_if ranked lines l)) er z ∙ sym (sets_append room 0 (text l) (text_if ranked lines l))
+        e ∙ ap₂ (λ (x : List ℕ) (i : ℕ). sets x i (text_if found l)) er z ∙ sym (sets_append room 0 (text l) (text_if found l))
         ∙ ap (sets room 0) (sym (sheet_next l))
-
--- what a literal adds, by whether it has a line
-module _ (ranked lines : List ℕ) (l : ℕ) {b : Bool} (eb : b ≡ member ranked l) where
-  pub has_line : b ≡ true → line_text (line_found lines l) ≡ text_if ranked lines l
-  unfolding text_if
-  has_line e = sym (rw (sym eb ∙ e) refl)
-
-  pub has_none : b ≡ false → [] ≡ text_if ranked lines l
-  unfolding text_if
-  has_none e = sym (rw (sym eb ∙ e) refl)

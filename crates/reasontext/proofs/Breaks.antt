@@ -11,13 +11,13 @@ use lib.Seq.{append_snoc, take_at, take-append-add}
 use Rattle.sets.proofs.First.{all_behind}
 use Rattle.limits.specs.Limits.{most_four_digits}
 use Rattle.refusal.specs.declared.Refusal.{Refusal}
-use Rattle.refusal.specs.declared.Checked.TheVariants.{Accepted, Refused}
 use Rattle.refusal.specs.Numbers.{text_broken}
 use Rattle.decimals.specs.Decimals.{is_digit, decimal}
 use Rattle.reasontext.specs.ReasonSheet.{ReasonLine, IsReasonText, Beginning, Broken}
 use Rattle.reasontext.specs.Reading.{separator, after_field, with_digit, breaks, TextRead, broken, at_end, number_then, read_from, read_text, lines_in}
 use Rattle.reasontext.proofs.Flat.{flat_text, flat_append, field_after, field_append, Small, all_cons, flat_good}
 use Rattle.reasontext.proofs.Texts.{front, Begun, digit_fits, separator_fits, good, good_read}
+use Rattle.std.specs.Prelude.{Ok, Err}
 
 -- the numbers and the digits that were read, and where that leads whatever follows
 record Reached (done : List ℕ) (f : ℕ) (begun : Bool) (n p : ℕ) : Type 0 where
@@ -149,15 +149,15 @@ beginning {done} {f} {begun} {n} {p} w =
         (small_append ms (λ x i. s x (mathlib.Core.List.Memᴰ.tail i)) t)
 
 -- a text that is not read without a fault is not good
-not_accepted : (text : List ℕ) {r : Refusal} → (read_text text).fault ≡ Refused r → (ls : List ReasonLine) → IsReasonText text ls → ⊥
+not_accepted : (text : List ℕ) {r : Refusal} → (read_text text).fault ≡ Err r → (ls : List ReasonLine) → IsReasonText text ls → ⊥
 not_accepted text e ls g =
-    let a : (read_text text).fault ≡ Accepted = ap (λ (x : TextRead). x.fault) (good_read text ls g) in
+    let a : (read_text text).fault ≡ (Ok tt) = ap (λ (x : TextRead). x.fault) (good_read text ls g) in
     let z : ◌≡◌ {A = ℕ} 0 1 = cc in omega arith
 
 -- the place where a fault stands
 module _ {done : List ℕ} {f : ℕ} {begun : Bool} {n p : ℕ} (w : Reached done f begun n p) (bs : List ℕ) where
-  stops : {r : Refusal} → (read_from f begun n p bs).fault ≡ Refused r
-      → ((rest : List ℕ) → p < length (done ++ bs) → (read_from f begun n p (take 1 bs ++ rest)).fault ≡ Accepted → ⊥) → Broken (done ++ bs) p
+  stops : {r : Refusal} → (read_from f begun n p bs).fault ≡ Err r
+      → ((rest : List ℕ) → p < length (done ++ bs) → (read_from f begun n p (take 1 bs ++ rest)).fault ≡ Ok tt → ⊥) → Broken (done ++ bs) p
   stops e further =
       let len = length-append done bs in
       let pl = w.place in
@@ -176,7 +176,7 @@ module _ {done : List ℕ} {f : ℕ} {begun : Bool} {n p : ℕ} (w : Reached don
       }
 
 broken_at : (bs done : List ℕ) (f : ℕ) (begun : Bool) (n p : ℕ) → Reached done f begun n p → {r : Refusal}
-    → (read_from f begun n p bs).fault ≡ Refused r
+    → (read_from f begun n p bs).fault ≡ Err r
     → (q : ℕ) × (r ≡ text_broken q) × Broken (done ++ bs) q
 unfolding read_from at_end
 broken_at [] done f begun n p w {r} x = (
@@ -186,7 +186,7 @@ broken_at [] done f begun n p w {r} x = (
       (λ rest lt y. let a = length-append done [] in let b = w.place in omega arith),
 )
   where
-    place : (c : Bool) → (cond c (good []) (broken p)).fault ≡ Refused r → r ≡ text_broken p
+    place : (c : Bool) → (cond c (good []) (broken p)).fault ≡ Err r → r ≡ text_broken p
     place true y = let z : ◌≡◌ {A = ℕ} 0 1 = cc in absurd (omega arith)
     place false y = cc
 broken_at (b ∷ bs) done f begun n p w {r} x =
@@ -203,20 +203,20 @@ broken_at (b ∷ bs) done f begun n p w {r} x =
     shifted a = (a.0, a.1, subst (λ (l : List ℕ). Broken l a.0) (append_snoc done b bs) a.2)
 
     go : (c : Bool) → breaks f begun n b ≡ c → (d : Bool) → is_digit b ≡ d
-        → (Reached (done ++ b ∷ []) f true (with_digit n b) (suc p) → R.fault ≡ Refused r
+        → (Reached (done ++ b ∷ []) f true (with_digit n b) (suc p) → R.fault ≡ Err r
         → (q : ℕ) × (r ≡ text_broken q) × Broken (done ++ b ∷ [] ++ bs) q)
-        → (Reached (done ++ b ∷ []) (after_field f) false 0 (suc p) → S.fault ≡ Refused r
+        → (Reached (done ++ b ∷ []) (after_field f) false 0 (suc p) → S.fault ≡ Err r
         → (q : ℕ) × (r ≡ text_broken q) × Broken (done ++ b ∷ [] ++ bs) q)
-        → (cond c (broken p) (cond d R (number_then n S))).fault ≡ Refused r → (q : ℕ) × (r ≡ text_broken q) × Broken (done ++ b ∷ bs) q
+        → (cond c (broken p) (cond d R (number_then n S))).fault ≡ Err r → (q : ℕ) × (r ≡ text_broken q) × Broken (done ++ b ∷ bs) q
     go true k d e f₁ f₂ y = (
       p,
       (cc),
-      stops w (b ∷ bs) x (λ rest lt a. let a' : Refused (text_broken p) ≡ Accepted = rw k at a in
+      stops w (b ∷ bs) x (λ rest lt a. let a' : Err (text_broken p) ≡ (Ok tt) = rw k at a in
           let z : ◌≡◌ {A = ℕ} 0 1 = cc in omega arith),
     )
     go false k true e f₁ f₂ y = shifted (f₁ (digit_more done f begun n p b w k e) y)
     go false k false e f₁ f₂ y = shifted (f₂ (number_more done f begun n p b w k e) y)
 
 -- a fault of a text is 21 at the place where it is broken
-pub read_broken : (text : List ℕ) {r : Refusal} → (read_text text).fault ≡ Refused r → (q : ℕ) × (r ≡ text_broken q) × Broken text q
+pub read_broken : (text : List ℕ) {r : Refusal} → (read_text text).fault ≡ Err r → (q : ℕ) × (r ≡ text_broken q) × Broken text q
 read_broken text e = broken_at text [] 0 false 0 0 start e

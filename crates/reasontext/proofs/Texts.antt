@@ -11,12 +11,12 @@ use lib.Seq.{append_snoc}
 use borrow.Author.Tests.{le-leb, leb-true, eqb-true, not-true, not-false}
 use Rattle.sets.proofs.Tests.{T→true, and_both}
 use Rattle.limits.specs.Limits.{most_four_digits}
-use Rattle.refusal.specs.declared.Checked.TheVariants.{Accepted}
 use Rattle.decimals.specs.Decimals.{digit, is_digit, decimal}
 use Rattle.decimals.proofs.Laws.{decimal_small, decimal_more, decimal_digit, by_digits}
 use Rattle.reasontext.specs.ReasonSheet.{ReasonLine, IsReasonText}
 use Rattle.reasontext.specs.Reading.{separator, after_field, with_digit, number_goes_on, breaks, TextRead, broken, at_end, number_then, read_from, read_text, lines_in}
 use Rattle.reasontext.proofs.Flat.{flat_text, field_after, Small, all_cons, numbers_of, reason_text_flat, lines_in_numbers_of, lines_field, lines_small, flat_good}
+use Rattle.std.specs.Prelude.{Ok}
 
 -- a digit's byte
 is_digit_lem : (d : ℕ) → d ≤ 9 → is_digit (digit d) ≡ true
@@ -79,7 +79,7 @@ digits_read f = by_digits
         ∙ ap₂ (λ (x y : ℕ). read_from f true x y rest) e (q ∙ ap (λ (x : ℕ). p + x) (sym (length-append u v))))
 
 abbrev pub good : List ℕ → TextRead
-good ns = record { fault = Accepted; numbers = ns }
+good ns = record { fault = Ok tt; numbers = ns }
 
 -- a good text is read without a fault
 flat_read : (ns : List ℕ) (f p : ℕ) → Small ns → field_after f ns ≡ 0 → read_from f false 0 p (flat_text f ns) ≡ good ns
@@ -143,11 +143,11 @@ record ReadGood (f : ℕ) (begun : Bool) (n : ℕ) (bs ns : List ℕ) : Type 0 w
   small : Small ns
   field : field_after f ns ≡ 0
 
-end_good : (f : ℕ) (begun : Bool) (n p : ℕ) → (at_end f begun p).fault ≡ Accepted → ReadGood f begun n [] (at_end f begun p).numbers
+end_good : (f : ℕ) (begun : Bool) (n p : ℕ) → (at_end f begun p).fault ≡ Ok tt → ReadGood f begun n [] (at_end f begun p).numbers
 unfolding at_end front flat_text field_after
 end_good f begun n p x = go (eqb f 0 && not begun) refl x
   where
-    go : (c : Bool) → (eqb f 0 && not begun) ≡ c → (cond c (good []) (broken p)).fault ≡ Accepted
+    go : (c : Bool) → (eqb f 0 && not begun) ≡ c → (cond c (good []) (broken p)).fault ≡ Ok tt
         → ReadGood f begun n [] (cond c (good []) (broken p)).numbers
     go false e y = let z : ◌≡◌ {A = ℕ} 0 1 = cc in absurd (omega arith)
     go true e y =
@@ -155,7 +155,7 @@ end_good f begun n p x = go (eqb f 0 && not begun) refl x
         let b : begun ≡ false = not-true begun q.1 in
         record { text_is = rw b refl; small = λ m i. absurd (Memᴰ.not-nil i); field = eqb-true f 0 q.0 }
 
-read_good : (bs : List ℕ) (f : ℕ) (begun : Bool) (n p : ℕ) → Begun begun n → (read_from f begun n p bs).fault ≡ Accepted
+read_good : (bs : List ℕ) (f : ℕ) (begun : Bool) (n p : ℕ) → Begun begun n → (read_from f begun n p bs).fault ≡ Ok tt
     → ReadGood f begun n bs (read_from f begun n p bs).numbers
 unfolding read_from front Begun flat_text field_after
 read_good [] f begun n p z x = end_good f begun n p x
@@ -170,9 +170,9 @@ read_good (b ∷ bs) f begun n p z x =
     S = read_from (after_field f) false 0 (suc p) bs
 
     go : (c : Bool) → breaks f begun n b ≡ c → (d : Bool) → is_digit b ≡ d
-        → (Begun true (with_digit n b) → R.fault ≡ Accepted → ReadGood f true (with_digit n b) bs R.numbers)
-        → (Begun false 0 → S.fault ≡ Accepted → ReadGood (after_field f) false 0 bs S.numbers)
-        → (cond c (broken p) (cond d R (number_then n S))).fault ≡ Accepted
+        → (Begun true (with_digit n b) → R.fault ≡ Ok tt → ReadGood f true (with_digit n b) bs R.numbers)
+        → (Begun false 0 → S.fault ≡ Ok tt → ReadGood (after_field f) false 0 bs S.numbers)
+        → (cond c (broken p) (cond d R (number_then n S))).fault ≡ Ok tt
         → ReadGood f begun n (b ∷ bs) (cond c (broken p) (cond d R (number_then n S))).numbers
     go true k d e r s y = let w : ◌≡◌ {A = ℕ} 0 1 = cc in absurd (omega arith)
     go false k true e r s y =
@@ -193,7 +193,7 @@ read_good (b ∷ bs) f begun n p z x =
         }
 
 -- so it is a good one
-pub read_lines : (text : List ℕ) → (read_text text).fault ≡ Accepted → IsReasonText text (lines_in (read_text text).numbers)
+pub read_lines : (text : List ℕ) → (read_text text).fault ≡ Ok tt → IsReasonText text (lines_in (read_text text).numbers)
 unfolding front Begun
 read_lines text x =
     let g = read_good text 0 false 0 0 ((λ h. refl), omega arith) x in

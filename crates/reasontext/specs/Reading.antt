@@ -1,7 +1,6 @@
 -- Stage: a text read byte by byte: the numbers that are whole, the number that has begun, and the first fault.
-use Rattle.std.specs.Prelude.{Bool, true, false, not, cond, ◌&&◌, List, [], ◌∷◌, ℕ, suc, ◌+◌, ◌-◌, ◌*◌, leb, eqb, set}
-use Rattle.refusal.specs.declared.Checked.{Checked}
-use Rattle.refusal.specs.declared.Checked.TheVariants.{Accepted, Refused}
+use Rattle.std.specs.Prelude.{Bool, true, false, not, cond, ◌&&◌, List, [], ◌∷◌, ℕ, suc, ◌+◌, ◌-◌, ◌*◌, leb, eqb, set, Ok, Err}
+use Rattle.refusal.specs.Checks.{Checked}
 use Rattle.refusal.specs.Numbers.{text_broken}
 use Rattle.decimals.specs.Decimals.{is_digit}
 use Rattle.reasontext.specs.declared.State.{State}
@@ -32,11 +31,11 @@ pub record TextRead : Type 0 where
   pub numbers : List ℕ
 
 abbrev pub broken : ℕ → TextRead
-broken p = record { fault = Refused (text_broken p); numbers = [] }
+broken p = record { fault = Err (text_broken p); numbers = [] }
 
 -- the text may end between two lines
 unfoldable pub at_end : ℕ → Bool → ℕ → TextRead
-at_end f begun p = cond (eqb f 0 && not begun) (record { fault = Accepted; numbers = [] }) (broken p)
+at_end f begun p = cond (eqb f 0 && not begun) (record { fault = Ok tt; numbers = [] }) (broken p)
 
 abbrev pub number_then : ℕ → TextRead → TextRead
 number_then n r = record { fault = r.fault; numbers = n ∷ r.numbers }

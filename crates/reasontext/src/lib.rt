@@ -7,7 +7,7 @@ ghost use Rattle.decimals.specs.Decimals.{decimal};
 ghost use Rattle.reasontext.specs.ReasonSheet.{line, line_text};
 ghost use Rattle.reasontext.specs.Reading.{separator, after_field, with_digit, number_goes_on, breaks, at_end, read_text, after_byte, stored_byte};
 
-use refusal::Checked;
+use refusal::{Reason, Refusal};
 
 // Where reading stands: which number of its line comes, whether it has begun, its value so far, and how many numbers are whole.
 #[derive(Clone, Copy)]
@@ -122,24 +122,24 @@ fn store_whole(room: &mut [u16], s: State, b: u8)
 }
 
 // The text may end between two lines.
-fn end_fault(s: State, at: usize) -> Checked
+fn end_fault(s: State, at: usize) -> Result<(), Refusal>
     ensures { result ≡ (at_end s.field s.begun at).fault }
 {
     let field = s.field;
     let begun = s.begun;
     if field == 0 {
         if begun {
-            return refusal::refused(refusal::TEXT_BROKEN, at);
+            return refusal::refused(Reason::TextBroken, at);
         }
-        return Checked::Accepted;
+        return Ok(());
     }
-    refusal::refused(refusal::TEXT_BROKEN, at)
+    refusal::refused(Reason::TextBroken, at)
 }
 
 // What reading found: a fault, and how many numbers are whole.
 #[derive(Clone, Copy)]
 pub struct Numbers {
-    pub fault: Checked,
+    pub fault: Result<(), Refusal>,
     pub count: usize,
 }
 
@@ -155,23 +155,20 @@ pub fn read_numbers(text: &[u8], room: &mut [u16]) -> Numbers
         number: 0,
         count: 0,
     };
-    let mut i: usize = 0;
-    while i < text.len() {
-        let b = text[i];
+    for (i, &b) in text.iter().enumerate() {
         if breaks_text(s, b) {
             let count = s.count;
             return Numbers {
-                fault: refusal::refused(refusal::TEXT_BROKEN, i),
+                fault: refusal::refused(Reason::TextBroken, i),
                 count,
             };
         }
         store_whole(room, s, b);
         s = after_byte(s, b);
-        i += 1;
     }
     let count = s.count;
     Numbers {
-        fault: end_fault(s, i),
+        fault: end_fault(s, text.len()),
         count,
     }
 }

@@ -1,4 +1,3 @@
 -- One turn of the loop over marks, what a record without fault is, that two allowed outcomes are equal, and small records computed.
-pub mod Turns
 pub mod Laws
 pub mod Examples

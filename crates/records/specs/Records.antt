@@ -1,13 +1,11 @@
 -- Believed: the mark record, its faults, a fresh one, one with a mark more, and the mark count.
-use Rattle.std.specs.Prelude.{Bool, true, false, not, ◌||◌, ◌≡◌, ℕ, zero, suc, ◌+◌, ◌-◌, leb, eqb, replicate}
+use Rattle.std.specs.Prelude.{Bool, true, false, not, ◌≡◌, ℕ, ◌+◌, ◌-◌, leb, eqb, replicate, Ok, Err, Result}
+use Rattle.std.specs.List.{list_any, range_with_len}
 use Rattle.limits.specs.Limits.{most_atoms}
 use Rattle.sets.specs.Sets.{count}
 use Rattle.refusal.specs.declared.Refusal.{Refusal}
-use Rattle.refusal.specs.declared.Checked.{Checked}
-use Rattle.refusal.specs.declared.Checked.TheVariants.{Accepted, Refused}
-use Rattle.refusal.specs.declared.Numbered.{Numbered}
+use Rattle.refusal.specs.Checks.{Checked, asking}
 use Rattle.refusal.specs.Numbers.{too_many_atoms, broken_record}
-use Rattle.refusal.specs.Checks.{asking}
 use Rattle.bits.specs.Sets.{member, put_in}
 use Rattle.records.specs.declared.MarkRecord.{MarkRecord}
 
@@ -29,22 +27,21 @@ no_marks_for N = record { n = N; marks = replicate 8 0; count = 0 }
 
 -- fresh record: 1; a refused one has N 0, no marks and count 0
 pub data FreshAllows (N : ℕ) : Checked → MarkRecord → Type 0 where
-  fresh : leb N most_atoms ≡ true → FreshAllows N Accepted (no_marks_for N)
-  refused : leb N most_atoms ≡ false → FreshAllows N (Refused too_many_atoms) (no_marks_for 0)
+  fresh : leb N most_atoms ≡ true → FreshAllows N (Ok tt) (no_marks_for N)
+  refused : leb N most_atoms ≡ false → FreshAllows N (Err too_many_atoms) (no_marks_for 0)
 
 -- is one of the k atoms from a on marked
-unfoldable pub marks_from : (ℕ → Bool) → ℕ → ℕ → Bool
-marks_from A a zero = false
-marks_from A a (suc k) = A a || marks_from A (suc a) k
+abbrev pub marks_from : (ℕ → Bool) → ℕ → ℕ → Bool
+marks_from A a k = list_any A (range_with_len a k)
 
 -- 1: N above 512; 17: the record has a mark at N or above, or its stored count is not the number of marks
 unfoldable pub record_fault : MarkRecord → Checked
 record_fault r =
     asking (leb r.n most_atoms) too_many_atoms
     (asking (not (marks_from (marks_of r) r.n (most_atoms - r.n))) broken_record
-    (asking (eqb r.count (marks_counted r)) broken_record Accepted))
+    (asking (eqb r.count (marks_counted r)) broken_record (Ok tt)))
 
 -- the mark count: the stored number
-pub data CountAllows (r : MarkRecord) : Numbered → Type 0 where
-  refused : {f : Refusal} → record_fault r ≡ Refused f → CountAllows r (Numbered.Refused f)
-  counted : record_fault r ≡ Accepted → CountAllows r (Numbered.Number r.count)
+pub data CountAllows (r : MarkRecord) : Result ℕ Refusal → Type 0 where
+  refused : {f : Refusal} → record_fault r ≡ Err f → CountAllows r (Err f)
+  counted : record_fault r ≡ Ok tt → CountAllows r (Ok r.count)

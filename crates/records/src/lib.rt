@@ -1,11 +1,11 @@
 #![tactic(auto)]
 
-ghost use Rattle.std.specs.Prelude.{◌≡◌, ◌≤◌};
+ghost use Rattle.std.specs.Prelude.{◌≡◌, ◌-◌, ◌≤◌};
 ghost use Rattle.limits.specs.Limits.{most_atoms};
 ghost use Rattle.bits.specs.Sets.{member};
 ghost use Rattle.records.specs.Records.{no_marks_for, with_mark, marks_from, record_fault, FreshAllows, CountAllows};
 
-use refusal::{Checked, Numbered};
+use refusal::{Reason, Refusal};
 
 // N, 512 marks and their count: atom a is bit a mod 64, lowest first, of word a div 64.
 #[derive(Clone, Copy)]
@@ -18,7 +18,7 @@ pub struct MarkRecord {
 // A fresh record, and whether it is one for the N that was asked.
 #[derive(Clone, Copy)]
 pub struct FreshRecord {
-    pub answer: Checked,
+    pub answer: Result<(), Refusal>,
     pub record: MarkRecord,
 }
 
@@ -38,12 +38,12 @@ pub fn fresh(n: u64) -> FreshRecord
 {
     if limits::MOST_N < n {
         return FreshRecord {
-            answer: refusal::refused(refusal::TOO_MANY_ATOMS, 0),
+            answer: refusal::refused(Reason::TooManyAtoms, 0),
             record: no_marks_for(0),
         };
     }
     FreshRecord {
-        answer: Checked::Accepted,
+        answer: Ok(()),
         record: no_marks_for(n),
     }
 }
@@ -53,61 +53,39 @@ pub fn with_mark(record: MarkRecord, a: usize) -> MarkRecord
     requires { «record».count ≤ most_atoms }
     ensures { result ≡ with_mark «record» a }
 {
-    let n = record.n;
-    let marks = record.marks;
-    let mut more = marks;
-    bits::put(&mut more, a);
-    let count = record.count + 1;
-    MarkRecord {
-        n,
-        marks: more,
-        count,
-    }
+    let mut more = record;
+    bits::put(&mut more.marks, a);
+    more.count += 1;
+    more
 }
 
-// Is one of the `k` atoms from `a` on marked?
-fn marks_from(marks: &[u64], a: usize, k: usize) -> bool
-    requires { (a ≤ most_atoms) × (k ≤ most_atoms) }
-    ensures { result ≡ marks_from (member marks.now) a k }
+// Is an atom from `n` on marked?
+fn marks_from(marks: &[u64], n: usize) -> bool
+    ensures { result ≡ marks_from (member marks.now) n (most_atoms - n) }
 {
-    let mut at = a;
-    let mut left = k;
-    while 0 < left {
-        if bits::has(marks, at) {
-            return true;
-        }
-        at += 1;
-        left -= 1;
-    }
-    false
+    (n..limits::MOST_ATOMS).any(|a| bits::has(marks, a))
 }
 
 // 1, then 17.
-pub fn record_fault(record: MarkRecord) -> Checked
+pub fn record_fault(record: MarkRecord) -> Result<(), Refusal>
     ensures { result ≡ record_fault «record» }
 {
-    let n = record.n;
-    let marks = record.marks;
-    let count = record.count;
-    if limits::MOST_N < n {
-        return refusal::refused(refusal::TOO_MANY_ATOMS, 0);
+    if limits::MOST_N < record.n {
+        return refusal::refused(Reason::TooManyAtoms, 0);
     }
-    let from = n as usize;
-    if marks_from(&marks, from, limits::MOST_ATOMS - from) {
-        return refusal::refused(refusal::BROKEN_RECORD, 0);
+    if marks_from(&record.marks, record.n as usize) {
+        return refusal::refused(Reason::BrokenRecord, 0);
     }
-    if count != bits::count(&marks) as u64 {
-        return refusal::refused(refusal::BROKEN_RECORD, 0);
+    if record.count != bits::count(&record.marks) as u64 {
+        return refusal::refused(Reason::BrokenRecord, 0);
     }
-    Checked::Accepted
+    Ok(())
 }
 
 // The stored number of marks.
-pub fn mark_count(record: MarkRecord) -> Numbered
+pub fn mark_count(record: MarkRecord) -> Result<u64, Refusal>
     ensures { CountAllows «record» result }
 {
-    if let Checked::Refused(r) = record_fault(record) {
-        return Numbered::Refused(r);
-    }
-    Numbered::Number(record.count)
+    record_fault(record)?;
+    Ok(record.count)
 }

@@ -4,12 +4,11 @@ use mathlib.Core.Bool.{Bool, true, false}
 use Prim.Native.Nat.{ℕ}
 use native.Mathlib.Omega.{arith}
 use Rattle.refusal.specs.declared.Refusal.{Refusal}
-use Rattle.refusal.specs.declared.Checked.{Checked}
-use Rattle.refusal.specs.declared.Checked.TheVariants.{Accepted, Refused}
-use Rattle.refusal.specs.Checks.{demanding, asking, or_else}
+use Rattle.refusal.specs.Checks.{Checked, demanding, asking, or_else}
+use Rattle.std.specs.Prelude.{Ok, Err}
 
 -- a refusal is no acceptance
-pub refused≢accepted : (f : Refusal) → Refused f ≡ Accepted → ⊥
+pub refused≢accepted : (f : Refusal) → ◌≡◌ {A = Checked} (Err f) (Ok tt) → ⊥
 refused≢accepted f e = let z : ◌≡◌ {A = ℕ} 0 1 = cc in omega arith
 
 -- a demand whose answer is no refusal was met
@@ -24,14 +23,14 @@ pub demanding_holds : {A : Type 0} (P : A → Type 0) (refuse : Refusal → A) (
 demanding_holds P refuse true r rest h on = on refl
 demanding_holds P refuse false r rest h on = h
 
-pub asking_accepted : (b : Bool) (r : Refusal) (rest : Checked) → asking b r rest ≡ Accepted → (b ≡ true) × (rest ≡ Accepted)
-asking_accepted b r rest e = demanding_met Refused b r rest Accepted (refused≢accepted r) e
+pub asking_accepted : (b : Bool) (r : Refusal) (rest : Checked) → asking b r rest ≡ Ok tt → (b ≡ true) × (rest ≡ Ok tt)
+asking_accepted b r rest e = demanding_met Err b r rest (Ok tt) (refused≢accepted r) e
 
-pub or_else_accepted : (a b : Checked) → or_else a b ≡ Accepted → (a ≡ Accepted) × (b ≡ Accepted)
-or_else_accepted Accepted b e = (refl, e)
-or_else_accepted (Refused r) b e = absurd (refused≢accepted r e)
+pub or_else_accepted : (a b : Checked) → or_else a b ≡ Ok tt → (a ≡ Ok tt) × (b ≡ Ok tt)
+or_else_accepted (Ok tt) b e = (refl, e)
+or_else_accepted (Err r) b e = absurd (refused≢accepted r e)
 
 -- nothing after it to refuse
-pub or_else_nothing : (c : Checked) → or_else c Accepted ≡ c
-or_else_nothing Accepted = refl
-or_else_nothing (Refused r) = refl
+pub or_else_nothing : (c : Checked) → or_else c (Ok tt) ≡ c
+or_else_nothing (Ok tt) = refl
+or_else_nothing (Err r) = refl

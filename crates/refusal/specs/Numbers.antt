@@ -1,94 +1,121 @@
 -- Believed: the numbers of refusal: when each is given and at which place, in the words and order of documents 01 and 02.
 use Rattle.std.specs.Prelude.{ℕ}
 use Rattle.refusal.specs.declared.Refusal.{Refusal}
+use Rattle.refusal.specs.declared.Reason.{Reason}
+use Rattle.refusal.specs.declared.Reason.TheVariants.{TooManyAtoms, TableTooLong, ValueRoomTooSmall, CutShort, NotALiteral, OutOfRange, SecondRule, SheetTooLong, BufferTooSmall, WrongByte, NameTooLong, TooManyNames, TooManyInBody, TooManyWords, TextRoomTooSmall, NoSuchAtom, BrokenRecord, NotSettled, NotATruthCode, TextBroken, LineNotJustified, NotAModel}
 
-abbrev pub refusal : ℕ → ℕ → Refusal
-refusal n p = record { number = n; place = p }
+abbrev pub refusal : Reason → ℕ → Refusal
+refusal r p = record { reason = r; place = p }
+
+-- the number of each reason
+abbrev pub number_of : Reason → ℕ
+number_of TooManyAtoms = 1
+number_of TableTooLong = 2
+number_of ValueRoomTooSmall = 3
+number_of CutShort = 4
+number_of NotALiteral = 5
+number_of OutOfRange = 6
+number_of SecondRule = 7
+number_of SheetTooLong = 8
+number_of BufferTooSmall = 9
+number_of WrongByte = 10
+number_of NameTooLong = 11
+number_of TooManyNames = 12
+number_of TooManyInBody = 13
+number_of TooManyWords = 14
+number_of TextRoomTooSmall = 15
+number_of NoSuchAtom = 16
+number_of BrokenRecord = 17
+number_of NotSettled = 18
+number_of NotATruthCode = 20
+number_of TextBroken = 21
+number_of LineNotJustified = 22
+number_of NotAModel = 34
 
 -- 1: N above 512; place 0
 abbrev pub too_many_atoms : Refusal
-too_many_atoms = refusal 1 0
+too_many_atoms = refusal TooManyAtoms 0
 
 -- 2: table above 8,192 words; place 0
 abbrev pub table_too_long : Refusal
-table_too_long = refusal 2 0
+table_too_long = refusal TableTooLong 0
 
 -- 3: value room below N bytes; place 0
 abbrev pub value_room_too_small : Refusal
-value_room_too_small = refusal 3 0
+value_room_too_small = refusal ValueRoomTooSmall 0
 
 -- 4: record cut short; place: table length
 abbrev pub cut_short : ℕ → Refusal
-cut_short words = refusal 4 words
+cut_short words = refusal CutShort words
 
 -- 5: literal code not below 2N; place: that word
 abbrev pub not_a_literal : ℕ → Refusal
-not_a_literal word = refusal 5 word
+not_a_literal word = refusal NotALiteral word
 
 -- 6: m above 64, or k 0 or above 64, or a line number above 32,768; place: that word
 abbrev pub out_of_range : ℕ → Refusal
-out_of_range word = refusal 6 word
+out_of_range word = refusal OutOfRange word
 
 -- 7: second rule for one head; place: the head (word, or byte of the literal)
 abbrev pub second_rule : ℕ → Refusal
-second_rule head = refusal 7 head
+second_rule head = refusal SecondRule head
 
 -- 8: sheet above 65,536 bytes; place 0
 abbrev pub sheet_too_long : Refusal
-sheet_too_long = refusal 8 0
+sheet_too_long = refusal SheetTooLong 0
 
 -- 9: word buffer below 8,192 or name buffer below 512 entries; place 0
 abbrev pub buffer_too_small : Refusal
-buffer_too_small = refusal 9 0
+buffer_too_small = refusal BufferTooSmall 0
 
 -- 10: byte that cannot stand there, or sheet ended inside a line; place: that byte; sheet length
 abbrev pub wrong_byte : ℕ → Refusal
-wrong_byte byte = refusal 10 byte
+wrong_byte byte = refusal WrongByte byte
 
 -- 11: name above 24 bytes; place: its 25th byte
 abbrev pub name_too_long : ℕ → Refusal
-name_too_long byte = refusal 11 byte
+name_too_long byte = refusal NameTooLong byte
 
 -- 12: 513th name; place: name's first byte
 abbrev pub too_many_names : ℕ → Refusal
-too_many_names byte = refusal 12 byte
+too_many_names byte = refusal TooManyNames byte
 
 -- 13: 65th group, or 65th literal in a group; place: literal's first byte
 abbrev pub too_many_in_body : ℕ → Refusal
-too_many_in_body byte = refusal 13 byte
+too_many_in_body byte = refusal TooManyInBody byte
 
 -- 14: words would pass 8,192; place: literal's first byte
 abbrev pub too_many_words : ℕ → Refusal
-too_many_words byte = refusal 14 byte
+too_many_words byte = refusal TooManyWords byte
 
 -- 15: value sheet, or reason sheet, does not fit the text room; place: bytes needed
 abbrev pub text_room_too_small : ℕ → Refusal
-text_room_too_small needed = refusal 15 needed
+text_room_too_small needed = refusal TextRoomTooSmall needed
 
 -- 16: picked atom not below N; place 0
 abbrev pub no_such_atom : Refusal
-no_such_atom = refusal 16 0
+no_such_atom = refusal NoSuchAtom 0
 
 -- 17: record has a mark at N or above, or its stored count is not the number of marks; place 0
 abbrev pub broken_record : Refusal
-broken_record = refusal 17 0
+broken_record = refusal BrokenRecord 0
 
 -- 18: report before settled; place 0
 abbrev pub not_settled : Refusal
-not_settled = refusal 18 0
+not_settled = refusal NotSettled 0
 
 -- 20: truth code above 3 handed to a connective, place 0; value code above 3, place: atom
 abbrev pub not_a_truth_code : ℕ → Refusal
-not_a_truth_code atom = refusal 20 atom
+not_a_truth_code atom = refusal NotATruthCode atom
 
 -- 21: text of a reason sheet broken; place: its first bad byte, or its length
 abbrev pub text_broken : ℕ → Refusal
-text_broken byte = refusal 21 byte
+text_broken byte = refusal TextBroken byte
 
 -- 22: line of a reason sheet missing, out of order or surplus, then not justified or rank above 1,023; place: line, from 1
 abbrev pub line_not_justified : ℕ → Refusal
-line_not_justified line = refusal 22 line
+line_not_justified line = refusal LineNotJustified line
 
 -- 34: values not a model; place: head word of the first rule not satisfied
 abbrev pub not_a_model : ℕ → Refusal
-not_a_model word = refusal 34 word
+not_a_model word = refusal NotAModel word

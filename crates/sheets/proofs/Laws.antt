@@ -17,9 +17,9 @@ use Rattle.sheetwords.specs.Sheets.{accepted, refused, sheet_outcome}
 use Rattle.buffers.specs.Padded.{padded}
 use Rattle.sheetwords.proofs.Turns.{accepted_is_not_refused, accepted_once}
 use Rattle.sheetwords.proofs.Laws.{sheet_table_accepted, sheet_lines, sheet_table_records}
-use Rattle.sheets.specs.declared.SheetAnswer.{SheetAnswer}
 use Rattle.sheets.specs.declared.SheetCounts.{SheetCounts}
-use Rattle.sheets.specs.SheetEntry.{sheet_of, counts, SheetAllows}
+use Rattle.sheets.specs.SheetEntry.{sheet_of, counts, SheetAllows, SheetAnswer}
+use Rattle.std.specs.Prelude.{Ok, Err}
 
 -- an accepted sheet has at most one rule per head
 pub sheet_one_rule : (s : List ℕ) (wordRoom nameRoom : ℕ) (x : Sofar) → sheet_outcome s wordRoom nameRoom ≡ accepted x
@@ -42,13 +42,13 @@ module _ (s : List ℕ) (wordRoom nameRoom : ℕ) (text : List ℕ) where
   pub sheet_determined : {a b : SheetAnswer} {ws ws' ns ns' t t' : List ℕ} → SheetAllows s wordRoom nameRoom text a ws ns t
       → SheetAllows s wordRoom nameRoom text b ws' ns' t' → Equal a b ws ws' ns ns' t t'
   sheet_determined (SheetAllows.refused {f} e) (SheetAllows.refused {f = g} e') =
-      let same : f ≡ g = (let z : refused f ≡ refused g = sym e ∙ e' in cc) in (ap SheetAnswer.Refused same, refl, refl, refl)
+      let same : f ≡ g = (let z : refused f ≡ refused g = sym e ∙ e' in cc) in (ap Err same, refl, refl, refl)
   sheet_determined (SheetAllows.refused {f} e) (SheetAllows.does_not_fit {x} e' i h) = absurd (accepted_is_not_refused x f (sym e' ∙ e))
   sheet_determined (SheetAllows.refused {f} e) (SheetAllows.accepted {x} e' i h) = absurd (accepted_is_not_refused x f (sym e' ∙ e))
   sheet_determined (SheetAllows.does_not_fit {x} {I} e i h) (SheetAllows.refused {f} e') = absurd (accepted_is_not_refused x f (sym e ∙ e'))
   sheet_determined (SheetAllows.does_not_fit {x} {I} e i h) (SheetAllows.does_not_fit {x = y} {I = J} e' j h') =
       let same = same_sheet s wordRoom nameRoom x y I J e e' i j in
-      (ap₂ (λ (z : Sofar) (K : Interpretation). SheetAnswer.Refused (text_room_too_small (length (sheet_of s z K)))) same.0 same.1, refl, refl, refl)
+      (ap₂ (λ (z : Sofar) (K : Interpretation). Err (text_room_too_small (length (sheet_of s z K)))) same.0 same.1, refl, refl, refl)
   sheet_determined (SheetAllows.does_not_fit {x} {I} e i h) (SheetAllows.accepted {x = y} {I = J} e' j h') =
       let same = same_sheet s wordRoom nameRoom x y I J e e' i j in
       absurd (omega (arith, h, h', ap₂ (λ (z : Sofar) (K : Interpretation). length (sheet_of s z K)) same.0 same.1))
@@ -80,7 +80,7 @@ pub record Leaves (s : List ℕ) (wordRoom nameRoom : ℕ) (c : SheetCounts) (ws
 
 pub accepted_leaves : (s : List ℕ) (wordRoom nameRoom : ℕ) (text : List ℕ) {a : SheetAnswer} {ws ns text' : List ℕ}
     → SheetAllows s wordRoom nameRoom text a ws ns text'
-    → (c : SheetCounts) → a ≡ SheetAnswer.Accepted c → Leaves s wordRoom nameRoom c ws ns text'
+    → (c : SheetCounts) → a ≡ Ok c → Leaves s wordRoom nameRoom c ws ns text'
 accepted_leaves s wordRoom nameRoom text (SheetAllows.refused e) c same = absurd (let z : ◌≡◌ {A = ℕ} 0 1 = cc in omega arith)
 accepted_leaves s wordRoom nameRoom text (SheetAllows.does_not_fit e i h) c same = absurd (let z : ◌≡◌ {A = ℕ} 0 1 = cc in omega arith)
 accepted_leaves s wordRoom nameRoom text (SheetAllows.accepted {x} {I} e i h) c same =

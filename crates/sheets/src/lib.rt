@@ -4,9 +4,7 @@ ghost use Rattle.std.specs.Prelude.{length};
 ghost use Rattle.sheets.specs.SheetEntry.{SheetAllows};
 ghost use Rattle.sheets.specs.Holding.{Holding, Valued};
 
-use refusal::{Checked, Refusal};
-use sheetwords::Filled;
-use valuesheet::Printed;
+use refusal::Refusal;
 
 // An accepted sheet: N, the words filled, and the value sheet's length.
 #[derive(Clone, Copy)]
@@ -14,12 +12,6 @@ pub struct SheetCounts {
     pub atoms: usize,
     pub words: usize,
     pub bytes: usize,
-}
-
-#[derive(Clone, Copy)]
-pub enum SheetAnswer {
-    Accepted(SheetCounts),
-    Refused(Refusal),
 }
 
 // Prints the value sheet, or clears the buffers where it does not fit.
@@ -31,22 +23,21 @@ fn print_or_clear(
     w: usize,
     values: &[u8],
     text: &mut [u8],
-) -> SheetAnswer
+) -> Result<SheetCounts, Refusal>
     requires holding { Holding sheet.now (length words.old) (length names.old) n w words.old names.old }
     requires valued { Valued sheet.now (length words.old) (length names.old) n values.now }
     ensures { SheetAllows sheet.now (length words.old) (length names.old) text.old result words.new names.new text.new }
 {
     let printed = valuesheet::print(sheet, names, n, values, text);
     match printed {
-        Printed::Whole(bytes) => SheetAnswer::Accepted(SheetCounts {
+        Ok(bytes) => Ok(SheetCounts {
             atoms: n,
             words: w,
             bytes,
         }),
-        Printed::Refused(r) => {
-            buffers::clear_words(words);
-            buffers::clear_names(names);
-            SheetAnswer::Refused(r)
+        Err(r) => {
+            buffers::clear(words, names);
+            Err(r)
         }
     }
 }
@@ -59,18 +50,17 @@ fn value_and_print(
     n: usize,
     w: usize,
     text: &mut [u8],
-) -> SheetAnswer
+) -> Result<SheetCounts, Refusal>
     requires { Holding sheet.now (length words.old) (length names.old) n w words.old names.old }
     ensures { SheetAllows sheet.now (length words.old) (length names.old) text.old result words.new names.new text.new }
 {
     let mut values = [0u8; limits::MOST_ATOMS];
     let answer = evaluation::evaluate(n as u64, &words[..w], &mut values);
     match answer {
-        Checked::Accepted => print_or_clear(sheet, words, names, n, w, &values, text),
-        Checked::Refused(r) => {
-            buffers::clear_words(words);
-            buffers::clear_names(names);
-            SheetAnswer::Refused(r)
+        Ok(()) => print_or_clear(sheet, words, names, n, w, &values, text),
+        Err(r) => {
+            buffers::clear(words, names);
+            Err(r)
         }
     }
 }
@@ -81,12 +71,9 @@ pub fn read_sheet(
     words: &mut [u16],
     names: &mut [u32],
     text: &mut [u8],
-) -> SheetAnswer
+) -> Result<SheetCounts, Refusal>
     ensures { SheetAllows sheet.now (length words.old) (length names.old) text.old result words.new names.new text.new }
 {
-    let filled = sheetwords::read_words(sheet, words, names);
-    match filled {
-        Filled::Read(n, w) => value_and_print(sheet, words, names, n, w, text),
-        Filled::Refused(r) => SheetAnswer::Refused(r),
-    }
+    let filled = sheetwords::read_words(sheet, words, names)?;
+    value_and_print(sheet, words, names, filled.atoms, filled.words, text)
 }

@@ -11,8 +11,7 @@ use borrow.Author.Tests.{ltb-true}
 use Rattle.refusal.specs.declared.Refusal.{Refusal}
 use Rattle.bits.specs.Sets.{member}
 use Rattle.bits.proofs.Laws.{member_of_zeros}
-use Rattle.refusal.specs.declared.Checked.{Checked}
-use Rattle.refusal.specs.declared.Checked.TheVariants.{Accepted, Refused}
+use Rattle.refusal.specs.Checks.{Checked}
 use Rattle.words.specs.Layout.{TableRecord, words_of}
 use Rattle.reader.specs.declared.Role.{Role}
 use Rattle.reader.specs.declared.Role.TheVariants.{Head, First, Further}
@@ -31,6 +30,7 @@ use Rattle.buffers.specs.Padded.{padded}
 use Rattle.literals.specs.Putting.{names_with, put_name, counted, Room, body_in, atom_in, code_in, fault_in, Put}
 use Rattle.literals.proofs.Taking.{faultless_allowed}
 use Rattle.literals.proofs.Growth.{RuleAt, GroupAt, Standing, words_grow, words_kept, begun, records_grow, SameLine, same_records, body_is, on_rule, on_group_first, on_group_further, heads_kept, heads_length, names_length, names_kept, in_front, words_length, name_room, code_below}
+use Rattle.std.specs.Prelude.{Ok, Err}
 
 -- the buffers hold what the literals so far have given
 pub record Kept (sofar : Sofar) (k : Counts) (ws ns heads : List ℕ) : Type 0 where
@@ -164,7 +164,7 @@ module _ (sofar : Sofar) (k : Counts) (ws ns heads : List ℕ) (kept : Kept sofa
       ∙ ap₂ (λ (x y : ℕ). fault_with (length (with_name a l sofar.names)) (repeats role (is_head Q) c) x (y + words_for role) p l.start)
       (body_is role k Q (length ws) ws at kept.in_words) (kept.words ∙ sym kept.counts)
 
-  pub keeps : (s : List ℕ) (p : ℕ) (k' : Counts) (ws' ns' heads' : List ℕ) → fault_in s k ws ns heads p l ≡ Accepted
+  pub keeps : (s : List ℕ) (p : ℕ) (k' : Counts) (ws' ns' heads' : List ℕ) → fault_in s k ws ns heads p l ≡ Ok tt
       → SameLine l.role (k.line + 1) (line_of s l.start)
       → Put (atom_in s k ns l) (code_in s k ns l) l k ws ns heads k' ws' ns' heads' → Kept (after s sofar l) k' ws' ns' heads'
   unfolding after
@@ -325,14 +325,14 @@ module _ (s : List ℕ) (whole : Outcome) (p : ℕ) (k : Counts) (ws ns heads : 
     stands : Standing l.role k inv.sofar.records
     stands = inv.ready.stands l.role (literal_read s p l is).in_role
 
-    pub at_fault : (x : Refusal) → fault_in s k ws ns heads p l ≡ Refused x → whole ≡ refused x
+    pub at_fault : (x : Refusal) → fault_in s k ws ns heads p l ≡ Err x → whole ≡ refused x
     at_fault x e =
         let one = step s inv.fuel p inv.sofar (Literal l) whole inv.inside inv.enough inv.onward is in
         sym one.2
         ∙ ap (λ (f : Checked). unless f (sheet_from one.0 s (place_after (Literal l) p) (after s inv.sofar l)))
         (sym (faults_agree inv.sofar k ws ns heads inv.kept l stands s p) ∙ e)
 
-    pub at_literal : (k' : Counts) (ws' ns' heads' : List ℕ) → fault_in s k ws ns heads p l ≡ Accepted
+    pub at_literal : (k' : Counts) (ws' ns' heads' : List ℕ) → fault_in s k ws ns heads p l ≡ Ok tt
         → Put (atom_in s k ns l) (code_in s k ns l) l k ws ns heads k' ws' ns' heads'
         → Filling s whole (place_after (Literal l) p) k' ws' ns' heads'
     unfolding after

@@ -8,7 +8,6 @@ use native.Mathlib.Omega.{arith}
 use lib.Dec.{ltb}
 use borrow.Author.Tests.{ltb-true, ltb-false}
 use Rattle.sets.specs.Sets.{◌∈◌}
-use Rattle.refusal.specs.declared.Checked.TheVariants.{Accepted}
 use Rattle.words.specs.Layout.{TableRecord}
 use Rattle.reader.specs.declared.Role.{Role}
 use Rattle.reader.specs.declared.Role.TheVariants.{Head, First, Further}
@@ -22,6 +21,7 @@ use Rattle.literals.specs.Literals.{Sofar, on_last, new_record, change_groups, w
 use Rattle.sheetwords.specs.Sheets.{accepted, sheet_outcome}
 use Rattle.sheetwords.proofs.Through.{literal_before, Ended, at_the_end}
 use Rattle.sheetwords.proofs.Names.{NamedBy, name_stays, name_new, same_literal}
+use Rattle.std.specs.Prelude.{Ok}
 
 -- a record that keeps its line and its head
 abbrev Kept : TableRecord → List TableRecord → Type 0
@@ -62,7 +62,7 @@ AllHeaded s count sofar =
     → Headed s sofar.records sofar.names l
 
 headed_on : (s : List ℕ) (count : ℕ) (sofar : Sofar) (k : SheetLiteral) → reading_at s (reached s 0 count) ≡ Literal k
-    → literal_fault s (reached s 0 count) sofar k ≡ Accepted → AllHeaded s count sofar → AllHeaded s (suc count) (after s sofar k)
+    → literal_fault s (reached s 0 count) sofar k ≡ Ok tt → AllHeaded s count sofar → AllHeaded s (suc count) (after s sofar k)
 unfolding after
 headed_on s count sofar k is fault headed i h l e head = by (ltb i count) refl
   where

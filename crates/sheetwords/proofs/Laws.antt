@@ -11,7 +11,6 @@ use lib.ListN.{length, length-append}
 use borrow.Author.Tests.{ltb-true}
 use Rattle.limits.specs.Limits.{most_line}
 use Rattle.sets.specs.Sets.{◌∈◌, ◌with◌}
-use Rattle.refusal.specs.declared.Checked.TheVariants.{Accepted}
 use Rattle.words.specs.Layout.{TableRecord, words_of, records_of, groups_words, body_at}
 use Rattle.words.specs.Check.{no_heads, AcceptedTable}
 use Rattle.words.specs.Within.{GroupWithin, BodyWithin, Within}
@@ -36,6 +35,7 @@ use Rattle.literals.proofs.Taking.{faultless_allowed}
 use Rattle.literals.proofs.Growth.{Standing, begun, words_grow, LineByLine, lines_grow, names_length, code_below}
 use Rattle.sheetwords.proofs.Filling.{Ready, line_is, head_line, ready_next, ready_first}
 use Rattle.sheetwords.proofs.Through.{place_reached, at_the_end}
+use Rattle.std.specs.Prelude.{Ok}
 
 -- what holds of each element of a list, with one more at its end
 all_snoc : {A : Type 0} (P : A → Type 0) (l : List A) (y : A) → ((x : A) → x ∈ l → P x) → P y → (x : A) → x ∈ l ++ (y ∷ []) → P x
@@ -182,7 +182,7 @@ begun_most First = omega arith
 begun_most Further = omega arith
 
 sound_after : (s : List ℕ) (p : ℕ) (sofar : Sofar) (l : SheetLiteral) → reading_at s p ≡ Literal l → ReadyAt s p sofar.records
-    → literal_fault s p sofar l ≡ Accepted → Sound sofar → Sound (after s sofar l)
+    → literal_fault s p sofar l ≡ Ok tt → Sound sofar → Sound (after s sofar l)
 unfolding literal_fault after
 sound_after s p sofar l is ready e sound =
     let Q = sofar.records in

@@ -11,7 +11,6 @@ use lib.ListN.{length, get_or, length-append, get_or-append}
 use lib.Seq.{get_or_at}
 use borrow.Author.Tests.{ltb-true, ltb-false}
 use Rattle.sets.specs.Sets.{◌∈◌}
-use Rattle.refusal.specs.declared.Checked.TheVariants.{Accepted}
 use Rattle.reader.specs.declared.SheetLiteral.{SheetLiteral}
 use Rattle.reader.specs.declared.Reading.TheVariants.{End, Literal}
 use Rattle.reader.specs.Sheet.{byte_at, continues_name}
@@ -24,6 +23,7 @@ use Rattle.literals.specs.Literals.{Sofar, atom_of, with_name, after, literal_fa
 use Rattle.literals.proofs.Lasts.{Below, below_snoc}
 use Rattle.sheetwords.specs.Sheets.{accepted, sheet_outcome}
 use Rattle.sheetwords.proofs.Through.{literal_before, Ended, at_the_end}
+use Rattle.std.specs.Prelude.{Ok}
 
 -- a name that a literal of the sheet has
 abbrev Written : List ℕ → List ℕ → Type 0
@@ -135,7 +135,7 @@ module _ (s : List ℕ) (count : ℕ) (es : List ℕ) (listed : Listed s count e
             (atom_of s es l, name_new s es l short)
 
 listed_on : (s : List ℕ) (count : ℕ) (sofar : Sofar) (l : SheetLiteral) → reading_at s (reached s 0 count) ≡ Literal l
-    → literal_fault s (reached s 0 count) sofar l ≡ Accepted → Listed s count sofar.names → Listed s (suc count) (after s sofar l).names
+    → literal_fault s (reached s 0 count) sofar l ≡ Ok tt → Listed s count sofar.names → Listed s (suc count) (after s sofar l).names
 unfolding after
 listed_on s count sofar l is fault listed = listed_after s count sofar.names listed l is
 

@@ -9,9 +9,7 @@ use lib.Dec.{leb, ltb}
 use lib.ListN.{length}
 use borrow.Author.Tests.{ltb-true, ltb-false}
 use Rattle.refusal.specs.declared.Refusal.{Refusal}
-use Rattle.refusal.specs.declared.Checked.{Checked}
-use Rattle.refusal.specs.declared.Checked.TheVariants.{Accepted, Refused}
-use Rattle.refusal.specs.Checks.{demanding}
+use Rattle.refusal.specs.Checks.{Checked, demanding}
 use Rattle.refusal.proofs.Laws.{demanding_met}
 use Rattle.reader.specs.declared.SheetLiteral.{SheetLiteral}
 use Rattle.reader.specs.declared.Reading.{Reading}
@@ -21,10 +19,11 @@ use Rattle.reader.proofs.Laws.{place_grows, place_inside, reached_on, reached_st
 use Rattle.literals.specs.Literals.{Sofar, nothing, after, literal_fault}
 use Rattle.sheetwords.specs.Sheets.{Outcome, accepted, refused, unless, by_reading, sheet_from, sheet_outcome}
 use Rattle.sheetwords.proofs.Turns.{accepted_is_not_refused, accepted_once}
+use Rattle.std.specs.Prelude.{Ok, Err}
 
-unless_accepted : (f : Checked) (o : Outcome) (x : Sofar) → unless f o ≡ accepted x → (f ≡ Accepted) × (o ≡ accepted x)
-unless_accepted Accepted o x e = (refl, e)
-unless_accepted (Refused r) o x e = absurd (accepted_is_not_refused x r (sym e))
+unless_accepted : (f : Checked) (o : Outcome) (x : Sofar) → unless f o ≡ accepted x → (f ≡ Ok tt) × (o ≡ accepted x)
+unless_accepted (Ok tt) o x e = (refl, e)
+unless_accepted (Err r) o x e = absurd (accepted_is_not_refused x r (sym e))
 
 pub demanding_accepted : (b : Bool) (r : Refusal) (o : Outcome) (x : Sofar) → demanding refused b r o ≡ accepted x → (b ≡ true) × (o ≡ accepted x)
 demanding_accepted b r o x e = demanding_met refused b r o (accepted x) (λ q. accepted_is_not_refused x r (sym q)) e
@@ -51,7 +50,7 @@ literal_before s count end i l e = by (ltb i count) refl
 
 module _ (s : List ℕ) (P : ℕ → Sofar → Type 0)
     (keeps : (count : ℕ) (sofar : Sofar) (l : SheetLiteral) → reading_at s (reached s 0 count) ≡ Literal l
-    → literal_fault s (reached s 0 count) sofar l ≡ Accepted → P count sofar → P (suc count) (after s sofar l)) (x : Sofar) where
+    → literal_fault s (reached s 0 count) sofar l ≡ Ok tt → P count sofar → P (suc count) (after s sofar l)) (x : Sofar) where
   -- the reader has ended, after so many literals
   abbrev pub Ended : Type 0
   Ended = (count : ℕ) × (reading_at s (reached s 0 count) ≡ End) × P count x

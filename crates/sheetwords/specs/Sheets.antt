@@ -1,12 +1,10 @@
 -- Believed: what a sheet gives, or its one refusal.
-use Rattle.std.specs.Prelude.{List, ◌&&◌, ℕ, zero, suc, ◌+◌, leb, length}
+use Rattle.std.specs.Prelude.{List, ◌&&◌, ℕ, zero, suc, ◌+◌, leb, length, Ok, Err}
 use Rattle.limits.specs.Limits.{most_atoms, most_words, most_sheet_bytes}
 use Rattle.literals.specs.Literals.{Sofar, nothing, literal_fault, after}
 use Rattle.refusal.specs.declared.Refusal.{Refusal}
 use Rattle.refusal.specs.Numbers.{sheet_too_long, buffer_too_small}
-use Rattle.refusal.specs.declared.Checked.{Checked}
-use Rattle.refusal.specs.declared.Checked.TheVariants.{Accepted, Refused}
-use Rattle.refusal.specs.Checks.{demanding}
+use Rattle.refusal.specs.Checks.{Checked, demanding}
 use Rattle.reader.specs.declared.Reading.{Reading}
 use Rattle.reader.specs.declared.Reading.TheVariants.{End, Refused as ReadRefused, Literal}
 use Rattle.reader.specs.Readings.{reading_at, place_after}
@@ -18,8 +16,8 @@ pub data Outcome : Type 0 where
 
 -- a fault decides; without one the sheet goes on
 abbrev pub unless : Checked → Outcome → Outcome
-unless Accepted onward = onward
-unless (Refused r) onward = refused r
+unless (Ok tt) onward = onward
+unless (Err r) onward = refused r
 
 -- by what stands at p
 abbrev pub by_reading : List ℕ → ℕ → Sofar → Reading → (Sofar → Outcome) → Outcome

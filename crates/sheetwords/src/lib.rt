@@ -8,19 +8,19 @@ ghost use Rattle.sheetwords.specs.Sheets.{sheet_from, sheet_outcome};
 ghost use Rattle.buffers.specs.Padded.{padded};
 ghost use Rattle.sheetwords.specs.Filling.{FilledBy, ReadInto};
 
-use literals::{Counts, Taken};
+use literals::Counts;
 use reader::Reading;
-use refusal::Refusal;
+use refusal::{Reason, Refusal};
 
-// What reading a sheet into words answers: N and the words filled, or the refusal.
+// A sheet read into words: N, and how many words are filled.
 #[derive(Clone, Copy)]
-pub enum Filled {
-    Read(usize, usize),
-    Refused(Refusal),
+pub struct Filled {
+    pub atoms: usize,
+    pub words: usize,
 }
 
 // Literal after literal, into empty buffers; the first with a fault decides.
-fn fill(sheet: &[u8], words: &mut [u16], names: &mut [u32]) -> Filled
+fn fill(sheet: &[u8], words: &mut [u16], names: &mut [u32]) -> Result<Filled, Refusal>
     requires most_words_in_bounds { most_words ≤ length words.old }
     requires most_atoms_in_bounds { most_atoms ≤ length names.old }
     requires words_value { words.old ≡ padded (length words.old) [] }
@@ -37,20 +37,20 @@ fn fill(sheet: &[u8], words: &mut [u16], names: &mut [u32]) -> Filled
         group: 0,
     };
     let mut place: usize = 0;
+    // Each literal says where the next one begins, and the end is a reading.
     loop {
         let next = reader::next_at(sheet, place);
         let reading = next.reading;
         match reading {
-            Reading::End => return Filled::Read(counts.atoms, counts.words),
-            Reading::Refused(r) => return Filled::Refused(r),
+            Reading::End => {
+                return Ok(Filled {
+                    atoms: counts.atoms,
+                    words: counts.words,
+                });
+            }
+            Reading::Refused(r) => return Err(r),
             Reading::Literal(l) => {
-                let taken = literals::take_literal(
-                    sheet, words, names, &mut heads, counts, place, l,
-                );
-                match taken {
-                    Taken::On(c) => counts = c,
-                    Taken::Off(r) => return Filled::Refused(r),
-                }
+                counts = literals::take_literal(sheet, words, names, &mut heads, counts, place, l)?;
             }
         }
         place = next.place;
@@ -58,7 +58,7 @@ fn fill(sheet: &[u8], words: &mut [u16], names: &mut [u32]) -> Filled
 }
 
 // Fills empty buffers, and leaves them empty where the sheet is refused.
-fn fill_or_clear(sheet: &[u8], words: &mut [u16], names: &mut [u32]) -> Filled
+fn fill_or_clear(sheet: &[u8], words: &mut [u16], names: &mut [u32]) -> Result<Filled, Refusal>
     requires most_words_in_bounds { most_words ≤ length words.old }
     requires most_atoms_in_bounds { most_atoms ≤ length names.old }
     requires words_value { words.old ≡ padded (length words.old) [] }
@@ -66,30 +66,25 @@ fn fill_or_clear(sheet: &[u8], words: &mut [u16], names: &mut [u32]) -> Filled
     ensures { ReadInto (sheet_from (length sheet.now + 1) sheet.now 0 nothing) (length words.old) (length names.old) result words.new names.new }
 {
     let filled = fill(sheet, words, names);
-    match filled {
-        Filled::Read(n, w) => Filled::Read(n, w),
-        Filled::Refused(r) => {
-            buffers::clear_words(words);
-            buffers::clear_names(names);
-            Filled::Refused(r)
-        }
+    if filled.is_err() {
+        buffers::clear(words, names);
     }
+    filled
 }
 
 // Reads a sheet into words and name entries: 8, 9, then its literals.
-pub fn read_words(sheet: &[u8], words: &mut [u16], names: &mut [u32]) -> Filled
+pub fn read_words(sheet: &[u8], words: &mut [u16], names: &mut [u32]) -> Result<Filled, Refusal>
     ensures { ReadInto (sheet_outcome sheet.now (length words.old) (length names.old)) (length words.old) (length names.old) result words.new names.new }
 {
-    buffers::clear_words(words);
-    buffers::clear_names(names);
+    buffers::clear(words, names);
     if limits::MOST_SHEET_BYTES < sheet.len() {
-        return Filled::Refused(refusal::at(refusal::SHEET_TOO_LONG, 0));
+        return refusal::refused(Reason::SheetTooLong, 0);
     }
     if words.len() < limits::MOST_WORDS {
-        return Filled::Refused(refusal::at(refusal::BUFFER_TOO_SMALL, 0));
+        return refusal::refused(Reason::BufferTooSmall, 0);
     }
     if names.len() < limits::MOST_ATOMS {
-        return Filled::Refused(refusal::at(refusal::BUFFER_TOO_SMALL, 0));
+        return refusal::refused(Reason::BufferTooSmall, 0);
     }
     fill_or_clear(sheet, words, names)
 }

@@ -7,51 +7,34 @@ ghost use Rattle.simmer.specs.Lines.{refusal_line};
 ghost use Rattle.simmer.specs.Rooms.{Arrived, Holds};
 
 use refusal::Refusal;
-use sheets::SheetAnswer;
 use std::fmt::InlineText;
 use std::io;
 use std::io::{Error, Read, Write};
 
-// What a read into the room's rest gave: bytes, the end of input, or nothing since it failed.
-#[derive(Drop)]
-enum Arrival {
-    Bytes(usize),
-    End,
-    Failed(Error),
-}
-
-// The whole input, or as much of it as the room holds; or a failed read, after which there is no sheet.
-#[derive(Drop)]
-enum Input {
-    Whole(usize),
-    Failed(Error),
-}
-
-// One read, into the room from a place on.
-fn read_some<R: Read>(input: &mut R, sheet: &mut [u8], place: usize) -> Arrival
+// One read, into the room from a place on: how many bytes came, or none at the input's end.
+fn read_some<R: Read>(input: &mut R, sheet: &mut [u8], place: usize) -> io::Result<Option<usize>>
     requires { place ≤ length sheet.old }
     ensures { Arrived place (length sheet.old) result }
 {
-    match input.read(&mut sheet[place..]) {
-        Ok(0) => Arrival::End,
-        Ok(n) => Arrival::Bytes(n),
-        Err(e) => Arrival::Failed(e),
+    match input.read(&mut sheet[place..])? {
+        0 => Ok(None),
+        n => Ok(Some(n)),
     }
 }
 
-// Reads until the input ends, a read fails or the room is full.
-fn read_input<R: Read>(input: &mut R, sheet: &mut [u8]) -> Input
+// Reads until the input ends or the room is full: how many bytes came. A read that fails leaves no sheet.
+fn read_input<R: Read>(input: &mut R, sheet: &mut [u8]) -> io::Result<usize>
     ensures { Holds sheet.new result }
 {
-    let mut place: usize = 0;
+    let mut place = 0;
+    // A read brings as many bytes as it likes.
     while place < sheet.len() {
-        match read_some(input, sheet, place) {
-            Arrival::Bytes(n) => place += n,
-            Arrival::End => return Input::Whole(place),
-            Arrival::Failed(e) => return Input::Failed(e),
+        match read_some(input, sheet, place)? {
+            Some(n) => place += n,
+            None => break,
         }
     }
-    Input::Whole(place)
+    Ok(place)
 }
 
 // Writes all of the bytes, or stops at the first write that fails or takes nothing, for which the system's reason is its text of 0.
@@ -60,6 +43,7 @@ fn write_all<W: Write>(out: &mut W, bytes: &[u8]) -> io::Result<()>
     ensures { OnOk result (Appends (W.contents out.old) (W.contents out.new) bytes.now) }
 {
     let mut done = 0;
+    // A write takes as many bytes as it likes.
     while done < bytes.len() {
         let n = out.write(&bytes[done..])?;
         if n == 0 {
@@ -70,7 +54,8 @@ fn write_all<W: Write>(out: &mut W, bytes: &[u8]) -> io::Result<()>
     Ok(())
 }
 
-// Puts a number's decimal digits at the end of the text; says where they begin.
+// Puts a number's decimal digits at the end of the text; says where they begin. Of what std's InlineText and write! give, no contract
+// says that it is not cut, or how it fails.
 fn put_decimal(n: u64, text: &mut [u8; 20]) -> usize
     ensures begins { result ≤ 20 }
     ensures digits { drop result text.new ≡ decimal n }
@@ -99,12 +84,10 @@ fn write_decimal<W: Write>(out: &mut W, n: u64) -> io::Result<()>
 fn write_refusal<W: Write>(out: &mut W, r: Refusal) -> io::Result<()>
     ensures { OnOk result (Appends (W.contents out.old) (W.contents out.new) (refusal_line r)) }
 {
-    let number = r.number;
-    let place = r.place;
     write_all(out, b"refused\t")?;
-    write_decimal(out, number)?;
+    write_decimal(out, r.reason.number())?;
     write_all(out, b"\t")?;
-    write_decimal(out, place)?;
+    write_decimal(out, r.place)?;
     write_all(out, b"\n")
 }
 
@@ -114,11 +97,8 @@ fn write_answer<W: Write>(out: &mut W, sheet: &[u8]) -> io::Result<()> {
     let mut names = [0u32; limits::MOST_ATOMS];
     let mut text = [0u8; limits::MOST_ATOMS * (limits::MOST_NAME_BYTES + 3)];
     match sheets::read_sheet(sheet, &mut words, &mut names, &mut text) {
-        SheetAnswer::Accepted(c) => {
-            let bytes = c.bytes;
-            write_all(out, &text[..bytes])
-        }
-        SheetAnswer::Refused(r) => write_refusal(out, r),
+        Ok(counts) => write_all(out, &text[..counts.bytes]),
+        Err(r) => write_refusal(out, r),
     }
 }
 
@@ -126,10 +106,9 @@ fn write_answer<W: Write>(out: &mut W, sheet: &[u8]) -> io::Result<()> {
 fn tell<W: Write>(err: &mut W, what: &[u8], error: Error) {
     let printed = InlineText::<128>::of(error);
     let text = printed.as_str();
-    let reason = match text.split_once(" (os error ") {
-        Some((reason, _)) => reason,
-        None => text,
-    };
+    let reason = text
+        .split_once(" (os error ")
+        .map_or(text, |(reason, _)| reason);
     let _ = write_all(err, what);
     let _ = write_all(err, b": ");
     let _ = write_all(err, reason.as_bytes());
@@ -147,7 +126,7 @@ fn answer_sheet<W: Write, E: Write>(out: &mut W, err: &mut E, sheet: &[u8]) {
 fn main(rt: HostRuntime) {
     let mut sheet = [0u8; limits::MOST_SHEET_BYTES + 1];
     match read_input(&mut rt.stdin(), &mut sheet) {
-        Input::Whole(n) => answer_sheet(&mut rt.stdout(), &mut rt.stderr(), &sheet[..n]),
-        Input::Failed(e) => tell(&mut rt.stderr(), b"simmer: cannot read standard input", e),
+        Ok(n) => answer_sheet(&mut rt.stdout(), &mut rt.stderr(), &sheet[..n]),
+        Err(e) => tell(&mut rt.stderr(), b"simmer: cannot read standard input", e),
     }
 }

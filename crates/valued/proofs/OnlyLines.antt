@@ -5,12 +5,13 @@ use Prim.Native.Nat.{ℕ, zero, suc}
 use native.Mathlib.Omega.{arith}
 use lib.ListN.{length, take, length-append}
 use Rattle.sets.specs.First.{FirstNot, this_one, later_one}
-use Rattle.refusal.specs.declared.Checked.{Checked}
+use Rattle.refusal.specs.Checks.{Checked}
 use Rattle.refusal.specs.Numbers.{not_a_model}
 use Rattle.paper.specs.Rules.{Rule}
 use Rattle.paper.specs.Definitions.{Interpretation, Model}
 use Rattle.words.specs.Layout.{TableRecord, record_words, groups_words, words_of, records_of, rules_in, rules_of}
 use Rattle.valued.specs.Model.{Satisfied, ModelAllows, is_a_model, is_none}
+use Rattle.std.specs.Prelude.{Err}
 
 -- the words of as many records with the same rules
 same_words : (n : ℕ) (Q P : List TableRecord) → rules_in Q ≡ rules_in P → length (words_of (take n Q)) ≡ length (words_of (take n P))
@@ -37,5 +38,5 @@ module _ (I : Interpretation) where
   pub model_alike : (t u : List ℕ) → rules_of t ≡ rules_of u → {r : Checked} → ModelAllows I t r → ModelAllows I u r
   model_alike t u e (is_a_model m) = is_a_model (subst (λ (R : List Rule). Model R I) e m)
   model_alike t u e (is_none {n = n} f) =
-      subst (λ (p : ℕ). ModelAllows I u (Checked.Refused (not_a_model p))) (sym (same_words n (records_of t) (records_of u) e))
+      subst (λ (p : ℕ). ModelAllows I u (Err (not_a_model p))) (sym (same_words n (records_of t) (records_of u) e))
       (is_none (same_first (records_of t) (records_of u) e f))

@@ -3,11 +3,12 @@ use mathlib.Core.Bool.{true, false, true≢false}
 use mathlib.Core.List.Memᴰ
 use mathlib.Core.List.{List, [], ◌∷◌}
 use mathlib.Core.Path.{◌≡◌, refl, sym, ap, ◌∙◌}
-use Prim.Native.Nat.{ℕ, zero, suc, ◌+◌, ◌-◌, ◌*◌, ◌≤◌, ◌<◌, min, max}
+use Prim.Native.Nat.{ℕ, zero, suc, ◌+◌, ◌-◌, ◌≤◌, ◌<◌, min, max}
 use native.Mathlib.Omega.{arith}
 use native.Mathlib.Numerals.{add-one}
-use lib.ListN.{length, get_or, take, drop}
+use lib.ListN.{length, get_or, take, drop, drop_of_length-le, length-take, length-drop}
 use lib.Seq.{drop-cons}
+use Rattle.sets.specs.Sets.{◌∈◌}
 use Rattle.paper.specs.Table1.{Value, 𝐟, 𝐮, 𝐢, 𝐭, code, ◌implies◌}
 use Rattle.paper.specs.Definitions.{Interpretation, value, group_value, any_value, body_value}
 use Rattle.paper.proofs.Values.{code_and, code_or}
@@ -15,65 +16,35 @@ use Rattle.words.specs.Layout.{take_groups, drop_groups, body_at, literals_at}
 use Rattle.words.specs.RecordAt.{groups_in, body_from, rule_at, WholeGroups}
 use Rattle.words.proofs.Reading.{length_take_groups}
 use Rattle.least.specs.Walk.{GroupsSkipped}
-use Rattle.least.proofs.Walk.{Turned}
+use Rattle.least.proofs.Walk.{Turned, group_inside, groups_go_on, groups_end}
 use Rattle.valued.specs.Valued.{LiteralsBelow, GroupsBelow, follows_code}
 
--- the literal at the front of a group, and the rest
-pub front : (t : List ℕ) (i k : ℕ) → i < length t → take (suc k) (drop i t) ≡ get_or t i 0 ∷ take k (drop (i + 1) t)
-front t i k h = rw (add-one i, drop-cons t i 0 h)
-
--- one literal looked at: where it stands in the rest of its group
-pub record Front (t : List ℕ) (at k i : ℕ) : Type 0 where
-  pub literals : take (k - i) (drop (at + i) t) ≡ get_or t (at + i) 0 ∷ take (k - (i + 1)) (drop (at + (i + 1)) t)
-
-pub front_at : (t : List ℕ) (at k i : ℕ) → at + k ≤ length t → i < k → Front t at k i
-front_at t at k i le lt =
-    let n : k - i ≡ suc (k - (i + 1)) = omega arith in
-    let p : at + (i + 1) ≡ at + i + 1 = omega arith in
-    record { literals = rw (n, p) (front t (at + i) (k - (i + 1)) (omega arith)) }
-
-pub below_start : (N : ℕ) (t : List ℕ) (at k : ℕ) → LiteralsBelow N (take k (drop at t)) → LiteralsBelow N (take (k - 0) (drop (at + 0) t))
-below_start N t at k b =
-    let n : k - 0 ≡ k = omega arith in
-    let p : at + 0 ≡ at = omega arith in
-    rw (n, p) b
-
-pub front_below : (N : ℕ) (t : List ℕ) (at k i w : ℕ) → Front t at k i → w ≡ get_or t (at + i) 0 → LiteralsBelow N
-    (take (k - i) (drop (at + i) t))
-    → w < 2 * N
-front_below N t at k i w f e b = rw e (b (get_or t (at + i) 0) (rw f.literals (Memᴰ.head refl)))
-
-pub rest_below : (N : ℕ) (t : List ℕ) (at k i : ℕ) → Front t at k i → LiteralsBelow N (take (k - i) (drop (at + i) t))
-    → LiteralsBelow N (take (k - (i + 1)) (drop (at + (i + 1)) t))
-rest_below N t at k i f b l m = b l (rw f.literals (Memᴰ.tail m))
+-- what stands in a group is one of its literals
+pub in_group : (β : List ℕ) (i : ℕ) → i < length β → get_or β i 0 ∈ β
+in_group [] i lt = absurd (omega arith)
+in_group (x ∷ β) zero lt = Memᴰ.head refl
+in_group (x ∷ β) (suc i) lt = Memᴰ.tail (in_group β i (omega arith))
 
 module _ (I : Interpretation) where
   -- the smaller of what was seen and the rest is the whole group's
-  pub group_turn : (t : List ℕ) (at k i low low' v w whole : ℕ) → Front t at k i → w ≡ get_or t (at + i) 0 → v ≡ code (value I w)
-      → low' ≡ min low v
-      → min low (code (group_value I (take (k - i) (drop (at + i) t)))) ≡ whole
-      → min low' (code (group_value I (take (k - (i + 1)) (drop (at + (i + 1)) t)))) ≡ whole
+  pub group_turn : (β : List ℕ) (i low low' v whole : ℕ) → i < length β → v ≡ code (value I (get_or β i 0)) → low' ≡ min low v
+      → min low (code (group_value I (drop i β))) ≡ whole → min low' (code (group_value I (drop (i + 1) β))) ≡ whole
   unfolding group_value
-  group_turn t at k i low low' v w whole f ew ev el inv =
-      let β = take (k - (i + 1)) (drop (at + (i + 1)) t) in
-      let e = ap (λ (γ : List ℕ). code (group_value I γ)) f.literals ∙ code_and (value I (get_or t (at + i) 0)) (group_value I β) in
-      let ev' : v ≡ code (value I (get_or t (at + i) 0)) = ev ∙ ap (λ (x : ℕ). code (value I x)) ew in
+  group_turn β i low low' v whole lt ev el inv =
+      let γ = drop (i + 1) β in
+      let front = drop-cons β i 0 lt ∙ ap (λ (k : ℕ). get_or β i 0 ∷ drop k β) (sym (add-one i)) in
+      let e = ap (λ (δ : List ℕ). code (group_value I δ)) front ∙ code_and (value I (get_or β i 0)) (group_value I γ) in
       omega arith
 
-  pub group_over : (t : List ℕ) (at k i low whole : ℕ) → k ≤ i → low ≤ 3 → min low
-      (code (group_value I (take (k - i) (drop (at + i) t)))) ≡ whole → low ≡ whole
+  pub group_over : (β : List ℕ) (i low whole : ℕ) → length β ≤ i → low ≤ 3 → min low (code (group_value I (drop i β))) ≡ whole
+      → low ≡ whole
   unfolding group_value
-  group_over t at k i low whole h s inv =
-      let n : k - i ≡ 0 = omega arith in
-      let e : code (group_value I (take (k - i) (drop (at + i) t))) ≡ 3 = rw n refl in
+  group_over β i low whole h s inv =
+      let e : code (group_value I (drop i β)) ≡ 3 = rw (drop_of_length-le β h) refl in
       omega arith
 
-  pub group_start : (t : List ℕ) (at k : ℕ) → min 3 (code (group_value I (take (k - 0) (drop (at + 0) t)))) ≡ code (group_value I (take k (drop at t)))
-  group_start t at k =
-      let n : k - 0 ≡ k = omega arith in
-      let p : at + 0 ≡ at = omega arith in
-      let s = small (group_value I (take k (drop at t))) in
-      rw (n, p) (omega arith)
+  pub group_start : (β : List ℕ) → min 3 (code (group_value I β)) ≡ code (group_value I β)
+  group_start β = let s = small (group_value I β) in omega arith
     where
       small : (v : Value) → code v ≤ 3
       small 𝐟 = omega arith
@@ -81,22 +52,65 @@ module _ (I : Interpretation) where
       small 𝐢 = omega arith
       small 𝐭 = omega arith
 
-  -- the larger of what was seen and the rest is the OR of all groups
-  pub any_turn : (t : List ℕ) (at left k high high' v whole : ℕ) → Turned t at left k → v ≡ code (group_value I (take k (drop (literals_at at) t)))
-      → high' ≡ max high v → max high (code (any_value I (take_groups left (drop at t)))) ≡ whole
-      → max high' (code (any_value I (take_groups (left - 1) (drop (literals_at at + k) t)))) ≡ whole
-  unfolding any_value
-  any_turn t at left k high high' v whole q ev eh inv =
-      let βs = take_groups (left - 1) (drop (literals_at at + k) t) in
-      let e = ap (λ (γs : List (List ℕ)). code (any_value I γs)) q.groups ∙ code_or (group_value I (take k (drop (literals_at at) t)))
-      (any_value I βs) in
-      omega arith
+  -- the groups before a place are passed: the larger of what was seen and the rest is the OR of all m
+  pub record Ored (N : ℕ) (t : List ℕ) (first m at left high : ℕ) : Type 0 where
+    pub inside : at ≤ length t
+    pub not_before : first ≤ at
+    pub whole : WholeGroups left (drop at t)
+    pub after_same : drop_groups left (drop at t) ≡ drop_groups m (drop first t)
+    pub below : GroupsBelow N (take_groups left (drop at t))
+    pub or_is : max high (code (any_value I (take_groups left (drop at t)))) ≡ code (any_value I (take_groups m (drop first t)))
 
-  pub any_over : (t : List ℕ) (at left high whole : ℕ) → left ≤ 0 → max high (code (any_value I (take_groups left (drop at t)))) ≡ whole
-      → high ≡ whole
-  unfolding any_value take_groups
-  any_over t at zero high whole h inv = let e : code (any_value I []) ≡ 0 = refl in omega arith
-  any_over t at (suc left) high whole h inv = absurd (omega arith)
+  module _ {N : ℕ} {t : List ℕ} {first m at left high : ℕ} (o : Ored N t first m at left high) where
+    module _ (some : 0 < left) where
+      turned : Turned t at left (get_or t at 0)
+      turned = groups_go_on t at left (get_or t at 0) o.whole some refl
+
+      pub this_group : (at < length t) × (literals_at at + get_or t at 0 ≤ length t)
+      this_group = (group_inside t at left o.whole some, turned.inside)
+
+      pub this_below : {β : List ℕ} → β ≡ take (get_or t at 0) (drop (literals_at at) t) → LiteralsBelow N β
+      this_below e l i = o.below (take (get_or t at 0) (drop (literals_at at) t)) (rw turned.groups (Memᴰ.head refl)) l (rw (← e) i)
+
+      pub ored_on : {β : List ℕ} {v high' next left' : ℕ} → β ≡ take (get_or t at 0) (drop (literals_at at) t) → v ≡ code (group_value I β)
+          → high' ≡ max high v → next ≡ literals_at at + length β → left' ≡ left - 1
+          → Ored N t first m next left' high'
+      unfolding any_value
+      ored_on {β} {v} {high'} {next} e ev eh en el =
+          let q = turned in
+          let k = ap length e in
+          let a = length-take (get_or t at 0) (drop (literals_at at) t) in
+          let b = length-drop (literals_at at) t in
+          let i = q.inside in
+          let p : next ≡ literals_at at + get_or t at 0 = omega arith in
+          rw (p, el) (record {
+            inside = q.inside;
+            not_before = let n = o.not_before in omega arith;
+            whole = q.whole;
+            after_same = q.after_same ∙ o.after_same;
+            below = λ γ x. o.below γ (rw q.groups (Memᴰ.tail x));
+            or_is =
+                let w = ap (λ (γs : List (List ℕ)). code (any_value I γs)) q.groups
+                ∙ code_or (group_value I (take (get_or t at 0) (drop (literals_at at) t)))
+                (any_value I (take_groups (left - 1) (drop (literals_at at + get_or t at 0) t))) in
+                let z = o.or_is in
+                let y = ev ∙ ap (λ (γ : List ℕ). code (group_value I γ)) e in
+                omega arith;
+          })
+
+    module _ (none : left ≤ 0) where
+      no_more : left ≡ 0
+      no_more = omega arith
+
+      pub ored_all : high ≡ code (any_value I (take_groups m (drop first t)))
+      unfolding any_value take_groups
+      ored_all =
+          let e : code (any_value I (take_groups left (drop at t))) ≡ 0 = rw no_more refl in
+          let z = o.or_is in
+          omega arith
+
+      pub ored_skipped : GroupsSkipped t first m at
+      ored_skipped = groups_end t first m at left none (o.inside, o.not_before, o.whole, o.after_same)
 
   -- a body with groups is their OR, one without is t
   pub body_some : (t : List ℕ) (at m v : ℕ) → m ≡ groups_in t at → (m ≡ 0 → ⊥) → WholeGroups (groups_in t at) (body_from t at)
@@ -118,14 +132,6 @@ pub fact_skipped : (t : List ℕ) (at m : ℕ) → body_at at ≤ length t → m
     → GroupsSkipped t (body_at at) (groups_in t at) (body_at at)
 unfolding drop_groups
 fact_skipped t at m le em e = let z : groups_in t at ≡ 0 = sym em ∙ e in record { after = rw z refl; inside = le; not_before = omega arith }
-
--- the group at the front is below, and so are those after it
-pub turned_below : (N : ℕ) (t : List ℕ) (at left k : ℕ) → Turned t at left k → GroupsBelow N (take_groups left (drop at t))
-    → LiteralsBelow N (take k (drop (literals_at at) t)) × GroupsBelow N (take_groups (left - 1) (drop (literals_at at + k) t))
-turned_below N t at left k q b = (
-  b (take k (drop (literals_at at) t)) (rw q.groups (Memᴰ.head refl)),
-  λ β m. b β (rw q.groups (Memᴰ.tail m)),
-)
 
 -- the implication, told from the codes
 pub follows→ : (v w : Value) → follows_code (code v) (code w) ≡ true → (v implies w) ≡ 𝐭

@@ -1,14 +1,12 @@
 -- Believed: the codes of values, where they are written, and the room they need.
-use Rattle.std.specs.Prelude.{List, [], ◌∷◌, ◌++◌, ℕ, zero, suc, leb, drop}
+use Rattle.std.specs.Prelude.{List, [], ◌∷◌, ◌++◌, ℕ, zero, suc, leb, drop, Ok}
 use Rattle.paper.specs.Table1.{Value, code}
 use Rattle.refusal.specs.Numbers.{value_room_too_small}
-use Rattle.refusal.specs.declared.Checked.{Checked}
-use Rattle.refusal.specs.declared.Checked.TheVariants.{Accepted}
-use Rattle.refusal.specs.Checks.{asking}
+use Rattle.refusal.specs.Checks.{Checked, asking}
 
 -- 3: value room below N bytes
 abbrev pub room_too_small : ℕ → ℕ → Checked
-room_too_small N room = asking (leb N room) value_room_too_small Accepted
+room_too_small N room = asking (leb N room) value_room_too_small (Ok tt)
 
 -- the codes of n atoms' values, from atom a on
 unfoldable pub codes_from : (ℕ → Value) → ℕ → ℕ → List ℕ

@@ -7,16 +7,16 @@ ghost use Rattle.paper.specs.Marking.{settled_value};
 ghost use Rattle.bits.specs.Sets.{member};
 ghost use Rattle.values.specs.Values.{room_too_small, written};
 
-use refusal::Checked;
+use refusal::{Reason, Refusal};
 
 // 3.
-pub fn room_too_small(n: u64, room: u64) -> Checked
+pub fn room_too_small(n: u64, room: u64) -> Result<(), Refusal>
     ensures { result ≡ room_too_small n room }
 {
     if room < n {
-        refusal::refused(refusal::VALUE_ROOM_TOO_SMALL, 0)
+        refusal::refused(Reason::ValueRoomTooSmall, 0)
     } else {
-        Checked::Accepted
+        Ok(())
     }
 }
 
@@ -42,9 +42,7 @@ pub fn write_values(values: &mut [u8], marks: &[u64], held: &[u64], n: usize)
     requires { (n ≤ most_atoms) × (n ≤ length values.old) }
     ensures { values.new ≡ written (settled_value (member marks.now) (member held.now)) n values.old }
 {
-    let mut a: usize = 0;
-    while a < n {
+    for a in 0..n {
         values[a] = value_code(marks, held, a);
-        a += 1;
     }
 }

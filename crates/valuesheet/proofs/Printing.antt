@@ -2,7 +2,7 @@
 use mathlib.Core.Path.{◌≡◌, refl, sym, ap, ap₂, ◌∙◌}
 use mathlib.Core.List.{List, [], ◌∷◌, ◌++◌}
 use mathlib.Core.Bool.{Bool, cond}
-use Prim.Native.Nat.{ℕ, zero, suc, ◌+◌, ◌-◌, ◌%◌, ◌<◌, ◌≤◌}
+use Prim.Native.Nat.{ℕ, suc, ◌+◌, ◌-◌, ◌%◌, ◌<◌, ◌≤◌}
 use native.Mathlib.Nat.{zero-add}
 use native.Mathlib.Numerals.{add-one}
 use native.Mathlib.Omega.{arith}
@@ -13,16 +13,9 @@ use Rattle.refusal.specs.Numbers.{text_room_too_small}
 use Rattle.reader.specs.Sheet.{byte_at}
 use Rattle.names.specs.Names.{bytes_at, name_of}
 use Rattle.names.proofs.Steps.{length_bytes_at, bytes_cons}
-use Rattle.valuesheet.specs.declared.Printed.TheVariants.{Whole, Refused}
 use Rattle.valuesheet.specs.ValueSheet.{letter_of, line_for, lines_from}
 use Rattle.valuesheet.specs.Fitting.{line_bytes, bytes_for, printing, text_after}
-
-pub letter_t : (v : ℕ) → (v ≡ 0 → ⊥) → (v ≡ 1 → ⊥) → (v ≡ 2 → ⊥) → 116 ≡ letter_of v
-unfolding letter_of
-letter_t zero h h' h'' = absurd (h refl)
-letter_t (suc zero) h h' h'' = absurd (h' refl)
-letter_t (suc (suc zero)) h h' h'' = absurd (h'' refl)
-letter_t (suc (suc (suc v))) h h' h'' = refl
+use Rattle.std.specs.Prelude.{Ok, Err}
 
 -- stores one after the other
 pub sets_append : (t : List ℕ) (i : ℕ) (u v : List ℕ) → sets t i (u ++ v) ≡ sets (sets t i u) (i + length u) v
@@ -128,21 +121,21 @@ no_lines s values names n a fits h =
 
 -- what printing leaves
 pub does_not_fit : (out text : List ℕ) (needed : ℕ) → needed ≡ length out → length text < needed
-    → (Refused (text_room_too_small needed) ≡ printing out (length text)) × (text ≡ text_after out text)
+    → (Err (text_room_too_small needed) ≡ printing out (length text)) × (text ≡ text_after out text)
 unfolding printing text_after
 does_not_fit out text needed e h =
     let no = lt-leb (length out) (length text) (omega arith) in (
-      ap (λ (x : ℕ). Refused (text_room_too_small x)) e
-          ∙ sym (ap (λ (b : Bool). cond b (Whole (length out)) (Refused (text_room_too_small (length out)))) no),
+      ap (λ (x : ℕ). Err (text_room_too_small x)) e
+          ∙ sym (ap (λ (b : Bool). cond b (Ok (length out)) (Err (text_room_too_small (length out)))) no),
       sym (ap (λ (b : Bool). cond b (out ++ drop (length out) text) text) no),
     )
 
 pub fits_whole : (out text text' : List ℕ) (needed : ℕ) → needed ≡ length out → needed ≤ length text → text' ≡ sets text 0 out
-    → (Whole needed ≡ printing out (length text)) × (text' ≡ text_after out text)
+    → (Ok needed ≡ printing out (length text)) × (text' ≡ text_after out text)
 unfolding printing text_after
 fits_whole out text text' needed e h put =
     let yes = le-leb (length out) (length text) (omega arith) in (
-      ap Whole e ∙ sym (ap (λ (b : Bool). cond b (Whole (length out)) (Refused (text_room_too_small (length out)))) yes),
+      ap Ok e ∙ sym (ap (λ (b : Bool). cond b (Ok (length out)) (Err (text_room_too_small (length out)))) yes),
       put ∙ sets-eq out text 0 (omega arith) ∙ ap (λ (x : ℕ). out ++ drop x text) (zero-add (length out))
           ∙ sym (ap (λ (b : Bool). cond b (out ++ drop (length out) text) text) yes),
     )

@@ -7,28 +7,18 @@ ghost use Rattle.names.specs.Names.{bytes_at};
 ghost use Rattle.valuesheet.specs.ValueSheet.{letter_of, line_for, value_sheet};
 ghost use Rattle.valuesheet.specs.Fitting.{line_bytes, bytes_for, printing, text_after};
 
-use refusal::Refusal;
+use refusal::{Reason, Refusal};
 
-// What printing answers: the bytes written, or that they do not fit.
-#[derive(Clone, Copy)]
-pub enum Printed {
-    Whole(usize),
-    Refused(Refusal),
-}
-
+#[tactic(auto, unfolding(crate::specs::ValueSheet::letter_of))]
 fn letter(v: u8) -> u8
     ensures { result ≡ letter_of v }
 {
-    if v == 0 {
-        return b'f';
+    match v {
+        0 => b'f',
+        1 => b'u',
+        2 => b'i',
+        _ => b't',
     }
-    if v == 1 {
-        return b'u';
-    }
-    if v == 2 {
-        return b'i';
-    }
-    b't'
 }
 
 fn line_bytes(e: usize) -> usize
@@ -45,11 +35,8 @@ fn bytes_needed(names: &[u32], n: usize) -> usize
     ensures { result ≡ bytes_for (take n names.now) }
 {
     let mut total: usize = 0;
-    let mut a: usize = 0;
-    while a < n {
-        let e = names::entry(names, a);
-        total = total + line_bytes(e);
-        a += 1;
+    for a in 0..n {
+        total += line_bytes(names::entry(names, a));
     }
     total
 }
@@ -60,11 +47,8 @@ fn put_name(sheet: &[u8], start: usize, len: usize, text: &mut [u8], at: usize)
     requires len_in_bounds { at + len ≤ length text.old }
     ensures { text.new ≡ sets text.old at (bytes_at sheet.now start len) }
 {
-    let mut i: usize = 0;
-    while i < len {
-        let b = reader::byte(sheet, start + i);
-        text[at + i] = b;
-        i += 1;
+    for i in 0..len {
+        text[at + i] = reader::byte(sheet, start + i);
     }
 }
 
@@ -72,9 +56,8 @@ fn put_value(text: &mut [u8], at: usize, v: u8)
     requires { at + 3 ≤ length text.old }
     ensures { text.new ≡ set (set (set text.old at 9) (at + 1) (letter_of v)) (at + 2) 10 }
 {
-    let l = letter(v);
     text[at] = b'\t';
-    text[at + 1] = l;
+    text[at + 1] = letter(v);
     text[at + 2] = b'\n';
 }
 
@@ -94,18 +77,21 @@ fn put_lines(sheet: &[u8], names: &[u32], n: usize, values: &[u8], text: &mut [u
     ensures { text.new ≡ sets text.old 0 (value_sheet sheet.now (λ a. get_or values.now a 0) (take n names.now)) }
 {
     let mut at: usize = 0;
-    let mut a: usize = 0;
-    while a < n {
+    for a in 0..n {
         let e = names::entry(names, a);
-        let v = reader::byte(values, a);
-        put_line(sheet, e, v, text, at);
-        at = at + line_bytes(e);
-        a += 1;
+        put_line(sheet, e, reader::byte(values, a), text, at);
+        at += line_bytes(e);
     }
 }
 
 // Prints the value sheet of `n` names, if it fits the text room.
-pub fn print(sheet: &[u8], names: &[u32], n: usize, values: &[u8], text: &mut [u8]) -> Printed
+pub fn print(
+    sheet: &[u8],
+    names: &[u32],
+    n: usize,
+    values: &[u8],
+    text: &mut [u8],
+) -> Result<usize, Refusal>
     requires n_le_most_atoms { n ≤ most_atoms }
     requires n_in_bounds { n ≤ length names.now }
     ensures value { result ≡ printing (value_sheet sheet.now (λ a. get_or values.now a 0) (take n names.now)) (length text.old) }
@@ -113,8 +99,8 @@ pub fn print(sheet: &[u8], names: &[u32], n: usize, values: &[u8], text: &mut [u
 {
     let needed = bytes_needed(names, n);
     if text.len() < needed {
-        return Printed::Refused(refusal::at(refusal::TEXT_ROOM_TOO_SMALL, needed));
+        return refusal::refused(Reason::TextRoomTooSmall, needed);
     }
     put_lines(sheet, names, n, values, text);
-    Printed::Whole(needed)
+    Ok(needed)
 }

@@ -16,7 +16,6 @@ use Rattle.paper.specs.Fires.{fires}
 use Rattle.paper.proofs.Closure.{Fires, fires→, →fires}
 use Rattle.bits.specs.Sets.{member}
 use Rattle.bits.specs.Rows.{row_without, lowest_from}
-use Rattle.bits.specs.declared.Found.TheVariants.{At, Nothing}
 use Rattle.bits.proofs.Least.{lowest_from_found, lowest_from_none}
 use Rattle.bits.proofs.Laws.{length_taken_out, member_taken_out_same, member_taken_out_other}
 use Rattle.words.specs.Layout.{records_of, rules_of}
@@ -25,11 +24,16 @@ use Rattle.least.specs.Groups.{Wholly}
 use Rattle.least.proofs.Groups.{number_fires, none_fires}
 use Rattle.index.proofs.Placed.{group_in_lem}
 use Rattle.pending.specs.Pending.{Whole}
-use Rattle.ranks.specs.Found.{Found, Fit, Adds, adds_at, not_its_turn, with_line, with_negation, adding, at_rule, over_rules}
+use Rattle.ranks.specs.declared.Found.{Found}
+use Rattle.ranks.specs.declared.Adds.{Adds}
+use Rattle.ranks.specs.Found.{Fit, adds_at, not_its_turn, with_line, with_negation, adding, at_rule, over_rules}
+use Rattle.waiting.specs.declared.Order.{Order}
 use Rattle.waiting.specs.Waiting.{number_for, place_for, AllBelow, Stirred, Ranking, MayAdd, Awake}
 use Rattle.ranks.proofs.Lines.{Moves, line_moves, line_ranked, negation_too, negation_moves}
 use Rattle.ranks.proofs.Rules.{Due, due, Added, not_due, no_group, one_line, two_lines, at_rule_lem, rule_moves}
 use Rattle.waiting.proofs.Numbering.{in_drop, at_most_1024_rules, number_of}
+use Rattle.index.specs.declared.Index.{Index}
+use Rattle.std.specs.Prelude.{Some, None}
 
 fires_more : (S S' : ℕ → Bool) → S ⊆ S' → (ρ : Rule) → T (fires S ρ) → T (fires S' ρ)
 fires_more S S' sub ρ f =
@@ -81,7 +85,7 @@ module _ {marked : Bool} {clean : List ℕ} {A : Marks} {st : Found} {ρ : Rule}
       T_not (member st₂.ranked ρ.head) (due marked A st₂ ρ.head may.0).0
       (more ρ.head (line_ranked st ρ.head ρ.head g fit below))
 
-module _ {marked : Bool} {clean : List ℕ} {A : Marks} {t x o : List ℕ} where
+module _ {marked : Bool} {clean : List ℕ} {A : Marks} {t : List ℕ} {x : Index} {o : Order} where
   -- all wait
   pub all_awake : {st : Found} {counts w : List ℕ} → Ranking clean t x o st counts → AllBelow (length (rules_of t)) w
       → Awake marked clean A t x o st counts w
@@ -120,13 +124,13 @@ module _ {marked : Bool} {clean : List ℕ} {A : Marks} {t x o : List ℕ} where
         ]
 
     -- none waits from number i on
-    pub none_left : {i : ℕ} → i < 1024 → Nothing ≡ lowest_from (1024 - i) i (member w)
+    pub none_left : {i : ℕ} → i < 1024 → None ≡ lowest_from (1024 - i) i (member w)
         → over_rules marked clean A (drop 1024 (rules_of t)) st ≡ over_rules marked clean A (drop i (rules_of t)) st
     none_left {i} lt found =
         idle_on (1024 - i) i 1024 (omega arith)
         (λ j a b m. subst T (lowest_from_none (1024 - i) i (member w) (sym found) j a (omega arith)) m)
 
-    module _ {i j : ℕ} (lt : i < 1024) (found : At j ≡ lowest_from (1024 - i) i (member w)) where
+    module _ {i j : ℕ} (lt : i < 1024) (found : Some j ≡ lowest_from (1024 - i) i (member w)) where
       -- the next that waits
       pub next_below : j < length (rules_of t)
       next_below = awake.only j (true→T (member w j) (lowest_from_found (1024 - i) i j (member w) (sym found)).passes)
@@ -230,12 +234,13 @@ module _ {marked : Bool} {clean : List ℕ} {A : Marks} {t x o : List ℕ} where
           }
 
 -- the rules before number i were passed
-pub record PassedTo (marked : Bool) (clean : List ℕ) (A : Marks) (t x o : List ℕ) (st : Found) (i : ℕ) (st' : Found)
+pub record PassedTo (marked : Bool) (clean : List ℕ) (A : Marks) (t : List ℕ) (x : Index) (o : Order) (st : Found) (i : ℕ) (st' : Found)
     (counts w : List ℕ) : Type 0 where
   pub awake : Awake marked clean A t x o st' counts w
   pub same : over_rules marked clean A (drop i (rules_of t)) st' ≡ over_rules marked clean A (rules_of t) st
 
-pub pass_ends : {marked : Bool} {clean : List ℕ} {A : Marks} {t x o : List ℕ} {st st' : Found} {i : ℕ} {counts w : List ℕ} → 1024 ≤ i
+pub pass_ends : {marked : Bool} {clean : List ℕ} {A : Marks} {t : List ℕ} {x : Index} {o : Order} {st st' : Found} {i : ℕ} {counts w : List ℕ}
+    → 1024 ≤ i
     → PassedTo marked clean A t x o st i st' counts w → st' ≡ over_rules marked clean A (rules_of t) st
 unfolding over_rules
 pass_ends {marked} {clean} {A} {t} {st' = st'} {i} le p =

@@ -7,7 +7,7 @@ use mathlib.Core.Path.{◌≡◌, refl, sym, ap, ap₂, ◌∙◌, subst}
 use Prim.Native.Nat.{ℕ, zero, suc, ◌+◌, ◌≤◌, ◌<◌}
 use native.Mathlib.Omega.{arith}
 use lib.Dec.{T}
-use lib.ListN.{length, get_or, set, drop, length-set}
+use lib.ListN.{length, get_or, drop, length-set}
 use lib.Seq.{drop-nil, get_or-set_same, get_or-set_other}
 use Rattle.sets.specs.Sets.{◌∈◌, ◌with◌, count}
 use Rattle.sets.proofs.Besides.{with_cases}
@@ -21,6 +21,7 @@ use Rattle.least.specs.Walk.{GroupsSkipped}
 use Rattle.valued.proofs.Through.{Through, This, this_record, this_of_table, through_next, through_end}
 use Rattle.index.specs.Placed.{Table}
 use Rattle.ranks.specs.Found.{RecordStands}
+use Rattle.waiting.specs.declared.Order.{Order}
 use Rattle.waiting.specs.Waiting.{number_for, place_for, with_record, NumberedRecord, Numbered}
 
 -- the heads of rules as a set
@@ -83,11 +84,11 @@ stands_in (τ ∷ R) ρ m =
     (Memᴰ.cases_cons m)
 
 -- the number of a rule's head is that of its record
-pub record NumberOf (t o : List ℕ) (ρ : Rule) : Type 0 where
+pub record NumberOf (t : List ℕ) (o : Order) (ρ : Rule) : Type 0 where
   pub below : number_for o ρ.head < length (rules_of t)
   pub rule : ρ ≡ rule_at t (place_for o (number_for o ρ.head))
 
-pub number_of : (t o : List ℕ) → Numbered t o → (ρ : Rule) → ρ ∈ rules_of t → NumberOf t o ρ
+pub number_of : (t : List ℕ) (o : Order) → Numbered t o → (ρ : Rule) → ρ ∈ rules_of t → NumberOf t o ρ
 number_of t o numbered ρ m =
     let q = stands_in (rules_of t) ρ m in
     let r = numbered.each q.number q.below in
@@ -99,21 +100,23 @@ number_of t o numbered ρ m =
     record { below = omega (arith, q.below); rule = e ∙ ap (λ (j : ℕ). rule_at t (place_for o j)) (sym n) }
 
 -- records are numbered as they are passed
-pub record NumberedTo (t o : List ℕ) (at n : ℕ) : Type 0 where
+pub record NumberedTo (t : List ℕ) (o : Order) (at : ℕ) : Type 0 where
   pub gone : List TableRecord
   pub through : Through t gone at
-  pub many : n ≡ length gone
-  pub room : length o ≡ 2048
-  pub each : (j : ℕ) → j < n → NumberedRecord t o j
+  pub many : o.count ≡ length gone
+  pub number_room : length o.numbers ≡ 1024
+  pub place_room : length o.places ≡ 1024
+  pub each : (j : ℕ) → j < o.count → NumberedRecord t o j
 
-pub numbers_start : (t o : List ℕ) → Table t → length o ≡ 2048 → NumberedTo t o 0 0
+pub numbers_start : (t : List ℕ) (o : Order) → Table t → o.count ≡ 0 → length o.numbers ≡ 1024 → length o.places ≡ 1024 → NumberedTo t o 0
 unfolding words_of
-numbers_start t o table room =
+numbers_start t o table none number_room place_room =
     record {
       gone = [];
       through = record { rest = records_of t; split = refl; here = table.words; inside = omega arith; place = refl };
-      many = refl;
-      room = room;
+      many = none;
+      number_room = number_room;
+      place_room = place_room;
       each = λ j lt. absurd (omega arith);
     }
 
@@ -137,7 +140,7 @@ length_behind : (P : List TableRecord) (r : TableRecord) → length (P ++ r ∷ 
 length_behind [] r = omega arith
 length_behind (p ∷ P) r = omega (arith, length_behind P r)
 
-module _ (t o : List ℕ) {at n : ℕ} (table : Table t) (lt : at < length t) (p : NumberedTo t o at n) where
+module _ (t : List ℕ) (o : Order) {at : ℕ} (table : Table t) (lt : at < length t) (p : NumberedTo t o at) where
   this : This t p.gone at p.through
   this = this_record t p.gone at lt p.through
 
@@ -152,7 +155,7 @@ module _ (t o : List ℕ) {at n : ℕ} (table : Table t) (lt : at < length t) (p
   split : records_of t ≡ p.gone ++ this.this ∷ this.others
   split = p.through.split ∙ ap (λ (Q : List TableRecord). p.gone ++ Q) this.rest_is
 
-  pub number_below : n < 1024
+  pub number_below : o.count < 1024
   number_below =
       let k = at_most_1024_rules t table in
       let l = length_rules (records_of t) in
@@ -162,64 +165,53 @@ module _ (t o : List ℕ) {at n : ℕ} (table : Table t) (lt : at < length t) (p
       omega arith
 
   -- its number and its place fit
-  pub number_fits : {head : ℕ} → head ≡ get_or t at 0 → (length o ≡ 2048) × (head < 1024) × (n < 1024) × (at < 65536)
+  pub number_fits : {head : ℕ} → head ≡ get_or t at 0 → (head < 1024) × (o.count < 1024) × (at < 65536)
   number_fits e =
       let w = ap length table.words in
       let l = table.within.at_most_8192 in
-      (p.room, rw e this_stands.head_literal, number_below, omega arith)
+      (rw e this_stands.head_literal, number_below, omega arith)
 
-  this_rule : drop n (rules_of t) ≡ rule_at t at ∷ drop (suc n) (rules_of t)
+  this_rule : drop o.count (rules_of t) ≡ rule_at t at ∷ drop (suc o.count) (rules_of t)
   this_rule =
       let R : rules_of t ≡ rules_in (p.gone ++ this.this ∷ this.others) = ap rules_in split in
       let after = ap₂ (λ (k : ℕ) (Q : List Rule). drop (suc k) Q) p.many R ∙ drop_after p.gone this.this this.others in
       ap₂ drop p.many R ∙ drop_this p.gone this.this this.others
       ∙ ap₂ (λ (ρ : Rule) (Q : List Rule). ρ ∷ Q) (sym this.rule_is) (sym after)
 
-  module _ {o' : List ℕ} {head : ℕ} (head_is : head ≡ get_or t at 0) (put : o' ≡ with_record o head n at) where
+  module _ {o' : Order} {head : ℕ} (head_is : head ≡ get_or t at 0) (put : o' ≡ with_record o head at) where
     head_below : head < 1024
     head_below = rw head_is this_stands.head_literal
 
-    room' : length o' ≡ 2048
-    unfolding with_record
-    room' = ap length put ∙ length-set (set o head n) (1024 + n) at ∙ length-set o head n ∙ p.room
-
-    place_same : place_for o' n ≡ at
-    unfolding with_record
+    place_same : place_for o' o.count ≡ at
     place_same =
-        ap (λ (x : List ℕ). place_for x n) put
-        ∙ get_or-set_same (set o head n) (1024 + n) at 0 (omega (arith, length-set o head n, p.room, number_below))
+        ap (λ (x : Order). place_for x o.count) put
+        ∙ get_or-set_same o.places o.count at 0 (omega (arith, p.place_room, number_below))
 
-    place_other : (j : ℕ) → j < n → place_for o' j ≡ place_for o j
-    unfolding with_record
+    place_other : (j : ℕ) → j < o.count → place_for o' j ≡ place_for o j
     place_other j less =
-        ap (λ (x : List ℕ). place_for x j) put ∙ get_or-set_other (set o head n) (1024 + n) (1024 + j) at 0 (λ e. omega arith)
-        ∙ get_or-set_other o head (1024 + j) n 0 (λ e. omega (arith, head_below))
+        ap (λ (x : Order). place_for x j) put ∙ get_or-set_other o.places o.count j at 0 (λ e. omega arith)
 
-    number_same : number_for o' head ≡ n
-    unfolding with_record
+    number_same : number_for o' head ≡ o.count
     number_same =
-        ap (λ (x : List ℕ). number_for x head) put ∙ get_or-set_other (set o head n) (1024 + n) head at 0 (λ e. omega (arith, head_below))
-        ∙ get_or-set_same o head n 0 (omega (arith, p.room, head_below))
+        ap (λ (x : Order). number_for x head) put
+        ∙ get_or-set_same o.numbers head o.count 0 (omega (arith, p.number_room, head_below))
 
-    number_other : (h : ℕ) → h < 1024 → h ≢ head → number_for o' h ≡ number_for o h
-    unfolding with_record
-    number_other h less ne =
-        ap (λ (x : List ℕ). number_for x h) put ∙ get_or-set_other (set o head n) (1024 + n) h at 0 (λ e. omega arith)
-        ∙ get_or-set_other o head h n 0 ne
+    number_other : (h : ℕ) → h ≢ head → number_for o' h ≡ number_for o h
+    number_other h ne = ap (λ (x : Order). number_for x h) put ∙ get_or-set_other o.numbers head h o.count 0 ne
 
-    earlier : (j : ℕ) → j < n → NumberedRecord t o' j
+    earlier : (j : ℕ) → j < o.count → NumberedRecord t o' j
     earlier j less =
         let q = p.each j less in
         let e = place_other j less in
         let ne : get_or t (place_for o j) 0 ≢ head = λ f.
-        later_head (rules_of t) table.within.distinct_heads j n less q.rule this_rule (sym (f ∙ head_is)) in
+        later_head (rules_of t) table.within.distinct_heads j o.count less q.rule this_rule (sym (f ∙ head_is)) in
         record {
           stands = rw e q.stands;
           rule = rw e q.rule;
-          number = rw e (number_other (get_or t (place_for o j) 0) q.stands.head_literal ne ∙ q.number);
+          number = rw e (number_other (get_or t (place_for o j) 0) ne ∙ q.number);
         }
 
-    last : NumberedRecord t o' n
+    last : NumberedRecord t o' o.count
     last =
         record {
           stands = rw place_same this_stands;
@@ -227,22 +219,23 @@ module _ (t o : List ℕ) {at n : ℕ} (table : Table t) (lt : at < length t) (p
           number = rw place_same (ap (number_for o') (sym head_is) ∙ number_same);
         }
 
-    pub numbers_go_on : {next : ℕ} → GroupsSkipped t (body_at at) (groups_in t at) next → NumberedTo t o' next (n + 1)
+    pub numbers_go_on : {next : ℕ} → GroupsSkipped t (body_at at) (groups_in t at) next → NumberedTo t o' next
     numbers_go_on {next} skipped =
         record {
           gone = p.gone ++ this.this ∷ [];
           through = through_next t p.gone at next p.through this skipped;
-          many = (let e = length_behind p.gone this.this in let m = p.many in omega arith);
-          room = room';
-          each = λ j less. elim (native.Mathlib.Decide.ℕ_discrete j n) [
+          many = (let e = length_behind p.gone this.this in let m = p.many in let f = ap (λ (x : Order). x.count) put in omega arith);
+          number_room = ap (λ (x : Order). length x.numbers) put ∙ length-set o.numbers head o.count ∙ p.number_room;
+          place_room = ap (λ (x : Order). length x.places) put ∙ length-set o.places o.count at ∙ p.place_room;
+          each = λ j less. let f = ap (λ (x : Order). x.count) put in elim (native.Mathlib.Decide.ℕ_discrete j o.count) [
             | yes e ↦ subst (NumberedRecord t o') (sym e) last
             | no ne ↦ earlier j (omega arith)
           ];
         }
 
-module _ (t o : List ℕ) {at n : ℕ} (le : length t ≤ at) (p : NumberedTo t o at n) where
-  pub all_counted : n ≡ length (rules_of t)
+module _ (t : List ℕ) (o : Order) {at : ℕ} (le : length t ≤ at) (p : NumberedTo t o at) where
+  all_counted : o.count ≡ length (rules_of t)
   all_counted = p.many ∙ ap length (sym (through_end t p.gone at le p.through)) ∙ sym (length_rules (records_of t))
 
   pub numbers_end : Numbered t o
-  numbers_end = record { room = p.room; each = λ j lt. p.each j (omega (arith, all_counted)) }
+  numbers_end = record { count = all_counted; each = λ j lt. p.each j (omega (arith, all_counted)) }

@@ -11,11 +11,15 @@ use Rattle.paper.specs.Rules.{Rule, HeadsBelow}
 use Rattle.paper.specs.Marking.{Marks}
 use Rattle.index.specs.Index.{IndexOf}
 use Rattle.pending.proofs.Marked.{none_counted}
-use Rattle.ranks.specs.Found.{Found, found, Fit, over_rules, found_at_rest, no_lines_yet, clean_found, reasons_found}
+use Rattle.ranks.specs.declared.Found.{Found}
+use Rattle.ranks.specs.Found.{Fit, over_rules, found_at_rest, no_lines_yet, clean_found, reasons_found}
+use Rattle.justified.specs.ByLiteral.{no_line}
+use Rattle.waiting.specs.declared.Order.{Order}
 use Rattle.waiting.specs.Waiting.{Numbered, Ranking}
 use Rattle.ranks.proofs.Rules.{pass_moves}
 use Rattle.ranks.proofs.Passes.{at_most_1024, at_rest_there, rest_turn}
 use Rattle.ranks.proofs.FoundLines.{no_lines_fit}
+use Rattle.index.specs.declared.Index.{Index}
 
 module _ (marked : Bool) (clean : List ℕ) (A : Marks) where
   module _ (R : List Rule) where
@@ -63,16 +67,16 @@ module _ (marked : Bool) (clean : List ℕ) (A : Marks) where
               omega arith
 
 -- first the literals with unmarked atoms, then the others
-pub ranking_starts : {t x o : List ℕ} → IndexOf t x → Numbered t o
-    → Ranking (replicate 16 0) t x o (found (replicate 16 0) (replicate 3072 0) 0) (replicate 8192 0)
+abbrev no_lines : Found
+no_lines = record { ranked = replicate 16 0; lines = replicate 1024 no_line; next_rank = 0 }
+
+pub ranking_starts : {t : List ℕ} {x : Index} {o : Order} → IndexOf t x → Numbered t o
+    → Ranking (replicate 16 0) t x o no_lines (replicate 8192 0)
 unfolding no_lines_yet
 ranking_starts {t} i n = record { index = i; numbered = n; fit = no_lines_fit; counted = none_counted t; clean_ranked = λ l m. m }
 
-pub ranked_are_clean : {clean t x o counts : List ℕ} {st : Found} → Ranking clean t x o st counts → Ranking st.ranked t x o st counts
-ranked_are_clean r = record { index = r.index; numbered = r.numbered; fit = r.fit; counted = r.counted; clean_ranked = λ l m. m }
-
 pub reasons_are : (R : List Rule) (A : Marks) {st₁ st₂ : Found}
-    → st₁ ≡ found_at_rest false (replicate 16 0) A R (found (replicate 16 0) (replicate 3072 0) 0) → st₂ ≡ found_at_rest true st₁.ranked A R st₁
+    → st₁ ≡ found_at_rest false (replicate 16 0) A R no_lines → st₂ ≡ found_at_rest true st₁.ranked A R st₁
     → st₂ ≡ reasons_found R A
 unfolding no_lines_yet clean_found reasons_found
 reasons_are R A first e = e ∙ ap (λ (z : Found). found_at_rest true z.ranked A R z) first

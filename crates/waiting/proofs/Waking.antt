@@ -13,21 +13,21 @@ use Rattle.sets.proofs.Besides.{with_itself, with_⊇, with_cases}
 use Rattle.sets.proofs.Tests.{true→T}
 use Rattle.bits.specs.Sets.{member, put_in}
 use Rattle.bits.specs.Rows.{lowest_from}
-use Rattle.bits.specs.declared.Found.TheVariants.{At, Nothing}
 use Rattle.bits.proofs.Least.{lowest_from_found, lowest_from_none}
 use Rattle.bits.proofs.Laws.{member_of_zeros}
 use Rattle.words.specs.Layout.{records_of, rules_of}
 use Rattle.index.specs.Placed.{Placed, placed_of, Table}
 use Rattle.index.proofs.Placed.{rule_in}
-use Rattle.pending.specs.Pending.{CountsAre}
+use Rattle.waiting.specs.declared.Order.{Order}
 use Rattle.waiting.specs.Waiting.{number_for, Numbered, AllBelow, Woke, Stirred}
 use Rattle.ranks.specs.Counted.{Counted}
 use Rattle.ranks.proofs.Counted.{put_with, put_row}
 use Rattle.ranks.proofs.Lines.{row_below}
 use Rattle.waiting.proofs.Numbering.{at_most_1024_rules, number_of}
+use Rattle.std.specs.Prelude.{Some, None}
 
 -- what is found is not before the place where it is looked for, and below 1,024
-module _ {h l : ℕ} (p : ℕ → Bool) (lt : h < 1024) (found : At l ≡ lowest_from (1024 - h) h p) where
+module _ {h l : ℕ} (p : ℕ → Bool) (lt : h < 1024) (found : Some l ≡ lowest_from (1024 - h) h p) where
   pub found_from : h ≤ l
   found_from = (lowest_from_found (1024 - h) h l p (sym found)).from
 
@@ -35,7 +35,7 @@ module _ {h l : ℕ} (p : ℕ → Bool) (lt : h < 1024) (found : At l ≡ lowest
   found_below = let b = (lowest_from_found (1024 - h) h l p (sym found)).below in omega arith
 
 -- the records of the heads in a row wait
-module _ (o woken : List ℕ) where
+module _ (o : Order) (woken : List ℕ) where
   pub woke_none : {w : List ℕ} → length w ≡ 16 → Woke o woken 0 0 w w
   woke_none r = record { row = r; more = λ j m. m; heads = λ x a b. absurd (omega arith); only = λ j m. inl m }
 
@@ -56,7 +56,7 @@ module _ (o woken : List ℕ) where
 
   module _ (h : ℕ) (lt : h < 1024) {w : List ℕ} (row : length w ≡ 16) where
     pub woke_next : {l n : ℕ} {w' : List ℕ} → ((x : ℕ) → T (member woken x) → number_for o x < 1024)
-        → At l ≡ lowest_from (1024 - h) h (member woken) → n ≡ number_for o l → w' ≡ put_in w n → Woke o woken h (l + 1) w w'
+        → Some l ≡ lowest_from (1024 - h) h (member woken) → n ≡ number_for o l → w' ≡ put_in w n → Woke o woken h (l + 1) w w'
     woke_next {l} {n} {w'} small found number put =
         let q = lowest_from_found (1024 - h) h l (member woken) (sym found) in
         let waits = true→T (member woken l) q.passes in
@@ -74,7 +74,7 @@ module _ (o woken : List ℕ) where
               (with_cases (member w) n j (subst (λ (S : ℕ → Bool). T (S j)) e m));
         }
 
-    pub woke_last : Nothing ≡ lowest_from (1024 - h) h (member woken) → Woke o woken h 1024 w w
+    pub woke_last : None ≡ lowest_from (1024 - h) h (member woken) → Woke o woken h 1024 w w
     woke_last found =
         record {
           row = row;
@@ -83,11 +83,8 @@ module _ (o woken : List ℕ) where
           only = λ j m. inl m;
         }
 
-pub stirred_nothing : {t o s w counts : List ℕ} → CountsAre t (member s) counts → length w ≡ 16 → Stirred t o s s w w counts
-stirred_nothing c r = record { counts = c; row = r; more = λ j m. m; whole = λ γ m k. inl k; only = λ j m. inl m }
-
 -- both, one after the other
-module _ {t o s s' woken counts' : List ℕ} (numbered : Numbered t o) (counted : Counted t s s' (replicate 16 0) woken counts') where
+module _ {t : List ℕ} {o : Order} {s s' woken counts' : List ℕ} (numbered : Numbered t o) (counted : Counted t s s' (replicate 16 0) woken counts') where
   -- the heads are those of records
   woken_numbers : (h : ℕ) → T (member woken h) → number_for o h < length (rules_of t)
   woken_numbers h m =

@@ -1,2 +1,3 @@
--- The records that wait to be looked at.
+-- The records that wait to be looked at, and a search for lines.
 pub mod Waiting
+pub mod Searching

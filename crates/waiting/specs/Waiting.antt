@@ -1,6 +1,5 @@
 -- Stage: the records that wait to be looked at, by their numbers: all that may have something to add are among them.
 use Rattle.std.specs.Prelude.{List, ◌∷◌, Bool, not, ◌⊎◌, ◌≡◌, ℕ, suc, ◌+◌, ◌≤◌, ◌<◌, T, length, get_or, set, drop}
-use Rattle.limits.specs.Limits.{most_codes}
 use Rattle.sets.specs.Sets.{◌∈◌, ◌⊆◌}
 use Rattle.paper.specs.Rules.{Rule}
 use Rattle.paper.specs.Marking.{Marks}
@@ -11,28 +10,31 @@ use Rattle.words.specs.RecordAt.{rule_at}
 use Rattle.index.specs.Placed.{Placed, placed_of}
 use Rattle.index.specs.Index.{IndexOf}
 use Rattle.pending.specs.Pending.{Whole, CountsAre}
-use Rattle.ranks.specs.Found.{Found, Fit, RecordStands, not_its_turn}
+use Rattle.ranks.specs.declared.Found.{Found}
+use Rattle.waiting.specs.declared.Order.{Order}
+use Rattle.ranks.specs.Found.{Fit, RecordStands, not_its_turn}
+use Rattle.index.specs.declared.Index.{Index}
 
 -- the number of the record with head h, and the place of record j
-abbrev pub number_for : List ℕ → ℕ → ℕ
-number_for o h = get_or o h 0
+abbrev pub number_for : Order → ℕ → ℕ
+number_for o h = get_or o.numbers h 0
 
-abbrev pub place_for : List ℕ → ℕ → ℕ
-place_for o j = get_or o (most_codes + j) 0
+abbrev pub place_for : Order → ℕ → ℕ
+place_for o j = get_or o.places j 0
 
--- with record j, which has head h and stands at a place
-unfoldable pub with_record : List ℕ → ℕ → ℕ → ℕ → List ℕ
-with_record o h j at = set (set o h j) (most_codes + j) at
+-- with the next record, which has head h and stands at a place
+abbrev pub with_record : Order → ℕ → ℕ → Order
+with_record o h at = record { numbers = set o.numbers h o.count; places = set o.places o.count at; count = o.count + 1 }
 
 -- record j has its number and its place
-pub record NumberedRecord (t o : List ℕ) (j : ℕ) : Type 0 where
+pub record NumberedRecord (t : List ℕ) (o : Order) (j : ℕ) : Type 0 where
   pub stands : RecordStands t (place_for o j)
   pub rule : drop j (rules_of t) ≡ rule_at t (place_for o j) ∷ drop (suc j) (rules_of t)
   pub number : number_for o (get_or t (place_for o j) 0) ≡ j
 
 -- all records have
-pub record Numbered (t o : List ℕ) : Type 0 where
-  pub room : length o ≡ 2048
+pub record Numbered (t : List ℕ) (o : Order) : Type 0 where
+  pub count : o.count ≡ length (rules_of t)
   pub each : (j : ℕ) → j < length (rules_of t) → NumberedRecord t o j
 
 -- a row for 1,024 numbers that has those below n
@@ -42,14 +44,14 @@ pub record AllBelow (n : ℕ) (w : List ℕ) : Type 0 where
   pub only : (j : ℕ) → T (member w j) → j < n
 
 -- the records whose heads are in a row, from head h on and before head k, wait now, and no other record was put there
-pub record Woke (o woken : List ℕ) (h k : ℕ) (w w' : List ℕ) : Type 0 where
+pub record Woke (o : Order) (woken : List ℕ) (h k : ℕ) (w w' : List ℕ) : Type 0 where
   pub row : length w' ≡ 16
   pub more : member w ⊆ member w'
   pub heads : (x : ℕ) → h ≤ x → x < k → T (member woken x) → T (member w' (number_for o x))
   pub only : (j : ℕ) → T (member w' j) → T (member w j) ⊎ ((x : ℕ) × T (member woken x) × (number_for o x ≡ j))
 
 -- literals got lines: their places are counted, and the record of each group that became whole waits
-pub record Stirred (t o s s' w w' counts' : List ℕ) : Type 0 where
+pub record Stirred (t : List ℕ) (o : Order) (s s' w w' counts' : List ℕ) : Type 0 where
   pub counts : CountsAre t (member s') counts'
   pub row : length w' ≡ 16
   pub more : member w ⊆ member w'
@@ -57,7 +59,7 @@ pub record Stirred (t o s s' w w' counts' : List ℕ) : Type 0 where
   pub only : (j : ℕ) → T (member w' j) → T (member w j) ⊎ (j < length (rules_of t))
 
 -- the literals that have lines, the clean ones among them, are counted
-pub record Ranking (clean t x o : List ℕ) (st : Found) (counts : List ℕ) : Type 0 where
+pub record Ranking (clean t : List ℕ) (x : Index) (o : Order) (st : Found) (counts : List ℕ) : Type 0 where
   pub index : IndexOf t x
   pub numbered : Numbered t o
   pub fit : Fit st
@@ -69,7 +71,7 @@ abbrev pub MayAdd : Bool → Marks → List ℕ → Rule → Type 0
 MayAdd marked A s ρ = T (not (not_its_turn marked A s ρ.head)) × T (fires (member s) ρ)
 
 -- and each record that may have something to add waits
-pub record Awake (marked : Bool) (clean : List ℕ) (A : Marks) (t x o : List ℕ) (st : Found) (counts w : List ℕ) : Type 0 where
+pub record Awake (marked : Bool) (clean : List ℕ) (A : Marks) (t : List ℕ) (x : Index) (o : Order) (st : Found) (counts w : List ℕ) : Type 0 where
   pub ranking : Ranking clean t x o st counts
   pub row : length w ≡ 16
   pub only : (j : ℕ) → T (member w j) → j < length (rules_of t)

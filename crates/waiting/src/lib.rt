@@ -2,52 +2,55 @@
 // became whole. No other has anything to add.
 #![tactic(auto)]
 
-ghost use Rattle.std.specs.Prelude.{◌≡◌, ℕ, ◌<◌, ◌≤◌, T, length, drop};
+ghost use Rattle.std.specs.Prelude.{◌≡◌, ℕ, ◌<◌, ◌≤◌, T, length};
 ghost use Rattle.limits.specs.Limits.{most_codes};
 ghost use Rattle.bits.specs.Sets.{member};
 ghost use Rattle.words.specs.Layout.{rules_of};
 ghost use Rattle.words.specs.RecordAt.{rule_at};
 ghost use Rattle.index.specs.Placed.{Table};
 ghost use Rattle.index.specs.Index.{IndexOf};
-ghost use Rattle.pending.specs.Pending.{CountsAre};
-ghost use Rattle.ranks.specs.Found.{found, CanAdd, as_adds, adding, at_rule, over_rules, found_at_rest, reasons_found};
-ghost use Rattle.waiting.specs.Waiting.{number_for, place_for, with_record, Numbered, AllBelow, Woke, Stirred, Ranking, Awake};
+ghost use Rattle.ranks.specs.Found.{CanAdd, adding, reasons_found};
+ghost use Rattle.waiting.specs.Waiting.{number_for, place_for, with_record, Numbered, AllBelow, Woke, Stirred};
+ghost use Rattle.waiting.specs.Searching.{RankingIn, AwakeIn, at_rule_in, over_rules_in, found_at_rest_in};
 
-use bits::Found;
+use index::Index;
+use ranks::{Adds, Heads, IndexedTable, Search};
+use valued::Record;
 
-// The lines of a reason sheet: the literals that have one, and from 3 * l on the rank of l, the head of the rule that it names, its group's number.
+// The records of a table by their numbers: for each head the number of its record, for each number the record's place, and how many there are.
 #[derive(Clone, Copy)]
-pub struct Reasons {
-    pub ranked: [u64; 16],
-    pub lines: [u16; 3072],
+pub struct Order {
+    pub numbers: [u16; 1024],
+    pub places: [u16; 1024],
+    pub count: usize,
 }
 
 // Heads and numbers of records are below it.
 const CODES: usize = 1024;
 
-// Record `n` has this head and place.
-fn put_number(order: &mut [u16], head: usize, n: usize, at: usize)
-    requires { (length order.old ≡ 2048) × (head < most_codes) × (n < most_codes) × (at < 65536) }
-    ensures { order.new ≡ with_record order.old head n at }
-{
-    order[head] = n as u16;
-    order[CODES + n] = at as u16;
+impl Order {
+    // The next record has this head and place.
+    fn put(&mut self, head: usize, at: usize)
+        requires { (head < most_codes) × (self.old.count < most_codes) × (at < 65536) }
+        ensures { self.new ≡ with_record self.old head at }
+    {
+        self.numbers[head] = self.count as u16;
+        self.places[self.count] = at as u16;
+        self.count += 1;
+    }
 }
 
-// Numbers the records: `order` has for each head the number of its record, and from `CODES` on for each number the record's place. How many they are.
-fn number_records(table: &[u16], order: &mut [u16]) -> usize
-    requires { Table table.now × (length order.old ≡ 2048) }
-    ensures value { result ≡ length (rules_of table.now) }
-    ensures numbered { Numbered table.now order.new }
+// Numbers the records of a table.
+fn number_records(table: &[u16], order: &mut Order)
+    requires { Table table.now × (order.old.count ≡ 0) }
+    ensures { Numbered table.now order.new }
 {
     let mut at: usize = 0;
-    let mut n: usize = 0;
+    // Each record says where the next one begins.
     while at < table.len() {
-        put_number(order, words::word_inside(table, at), n, at);
+        order.put(words::word_inside(table, at), at);
         at = least::skip_record(table, at);
-        n += 1;
     }
-    n
 }
 
 // All numbers below `n`.
@@ -56,257 +59,149 @@ fn all_below(n: usize) -> [u64; 16]
     ensures { AllBelow n result }
 {
     let mut row = [0u64; 16];
-    let mut i: usize = 0;
-    while i < n {
+    for i in 0..n {
         bits::put(&mut row, i);
-        i += 1;
     }
     row
 }
 
-// The record of the next head of the row `woken`, from `h` on, waits; where to go on, `CODES` if there is none.
-fn wake_next(order: &[u16], woken: &[u64], waiting: &mut [u64], h: usize) -> usize
-    requires { (length order.now ≡ 2048) × (length waiting.old ≡ 16) × (h < most_codes) × ((x : ℕ) → T (member woken.now x) → number_for order.now x < most_codes) }
-    ensures lower_bound { h < result }
-    ensures woke { Woke order.now woken.now h result waiting.old waiting.new }
-{
-    match bits::lowest_from(woken, h) {
-        Found::At(l) => {
-            bits::put(waiting, words::word_inside(order, l));
-            l + 1
-        }
-        Found::Nothing => CODES,
-    }
-}
-
 // The records of all heads of the row `woken` wait.
-fn wake(order: &[u16], woken: &[u64], waiting: &mut [u64])
-    requires { (length order.now ≡ 2048) × (length waiting.old ≡ 16) × ((x : ℕ) → T (member woken.now x) → number_for order.now x < most_codes) }
+fn wake(order: &Order, woken: &[u64], waiting: &mut [u64])
+    requires { (length waiting.old ≡ 16) × ((x : ℕ) → T (member woken.now x) → number_for order.now x < most_codes) }
     ensures { Woke order.now woken.now 0 most_codes waiting.old waiting.new }
 {
     let mut h: usize = 0;
+    // The next head is the next one in the row.
     while h < CODES {
-        h = wake_next(order, woken, waiting, h);
+        match bits::lowest_from(woken, h) {
+            Some(l) => {
+                bits::put(waiting, order.numbers[l] as usize);
+                h = l + 1;
+            }
+            None => return,
+        }
     }
 }
 
-// Adds so many lines for a head by the group of this number; the records of the groups that become whole wait. The next rank.
+// What a search reads: the table, the order of its records, and which heads are looked for.
+#[derive(Clone, Copy)]
+pub struct Sources<'a, 'o> {
+    pub table: IndexedTable<'a>,
+    pub order: &'o Order,
+    pub heads: Heads<'a>,
+}
+
+// Adds what the rule with this head adds; the records of the groups that become whole wait.
 fn add_and_wake(
-    table: &[u16],
-    index: &[u16],
-    order: &[u16],
-    ranked: &mut [u64],
-    lines: &mut [u16],
-    counts: &mut [u8],
+    sources: &Sources,
+    search: &mut Search,
     waiting: &mut [u64],
     head: usize,
-    rank: usize,
-    many: usize,
-    group: usize,
-) -> usize
-    requires { IndexOf table.now index.now × Numbered table.now order.now × CountsAre table.now (member ranked.old) counts.old × (length waiting.old ≡ 16) × CanAdd (found ranked.old lines.old rank) head (as_adds many group) }
-    ensures result_after { found ranked.new lines.new result ≡ adding (found ranked.old lines.old rank) head (as_adds many group) }
-    ensures stirred { Stirred table.now order.now ranked.old ranked.new waiting.old waiting.new counts.new }
+    adds: Adds,
+)
+    requires { RankingIn sources.now search.old × (length waiting.old ≡ 16) × CanAdd search.old.found head adds }
+    ensures found_after { search.new.found ≡ adding search.old.found head adds }
+    ensures stirred { Stirred sources.now.table.words.now sources.now.order.now search.old.found.ranked search.new.found.ranked waiting.old waiting.new search.new.counts }
 {
-    if many == 0 {
-        return rank;
+    if let Adds::Nothing = adds {
+        return;
     }
-    let mut woken = [0u64; 16];
-    let after = ranks::add(
-        table, index, ranked, lines, &mut woken, counts, head, rank, many, group,
-    );
-    wake(order, &woken, waiting);
-    after
+    search.woken = [0u64; 16];
+    search.add(&sources.table, head, adds);
+    wake(sources.order, &search.woken, waiting);
 }
 
-// Looks at record `j`, and adds what it adds; the next rank.
-fn look(
-    table: &[u16],
-    index: &[u16],
-    order: &[u16],
-    ranked: &mut [u64],
-    lines: &mut [u16],
-    counts: &mut [u8],
-    waiting: &mut [u64],
-    clean: &[u64],
-    marks: &[u64],
-    marked: bool,
-    rank: usize,
-    j: usize,
-) -> usize
-    requires { Awake marked clean.now (member marks.now) table.now index.now order.now (found ranked.old lines.old rank) counts.old waiting.old × (j < length (rules_of table.now)) }
-    ensures result_after { found ranked.new lines.new result ≡ at_rule marked clean.now (member marks.now) (found ranked.old lines.old rank) (rule_at table.now (place_for order.now j)) }
-    ensures awake { Awake marked clean.now (member marks.now) table.now index.now order.now (found ranked.new lines.new result) counts.new waiting.new }
+// Looks at record `j`, and adds what it adds.
+fn look(sources: &Sources, search: &mut Search, waiting: &mut [u64], j: usize)
+    requires { AwakeIn sources.now search.old waiting.old × (j < length (rules_of sources.now.table.words.now)) }
+    ensures found_after { search.new.found ≡ at_rule_in sources.now search.old.found (rule_at sources.now.table.words.now (place_for sources.now.order.now j)) }
+    ensures awake { AwakeIn sources.now search.new waiting.new }
 {
-    let at = words::word_inside(order, CODES + j);
-    let head = words::word_inside(table, at);
-    let choice = ranks::choose(table, ranked, clean, marks, marked, at, head);
-    add_and_wake(
-        table,
-        index,
-        order,
-        ranked,
-        lines,
-        counts,
-        waiting,
-        head,
-        rank,
-        choice.many,
-        choice.group,
-    )
+    let record = Record {
+        table: sources.table.words,
+        at: sources.order.places[j] as usize,
+    };
+    let adds = sources.heads.choose(&record, &search.found.ranked);
+    add_and_wake(sources, search, waiting, record.head(), adds);
 }
 
-// One record was looked at, or none is left; where to go on, and the next rank.
-#[derive(Clone, Copy)]
-pub struct Turn {
-    pub next: usize,
-    pub rank: usize,
-}
-
-// Looks at the next record that waits, from number `i` on.
-fn look_next(
-    table: &[u16],
-    index: &[u16],
-    order: &[u16],
-    ranked: &mut [u64],
-    lines: &mut [u16],
-    counts: &mut [u8],
-    waiting: &mut [u64],
-    clean: &[u64],
-    marks: &[u64],
-    marked: bool,
-    rank: usize,
-    i: usize,
-) -> Turn
-    requires { Awake marked clean.now (member marks.now) table.now index.now order.now (found ranked.old lines.old rank) counts.old waiting.old × (i < most_codes) }
-    ensures i_lt_next { i < result.next }
-    ensures rank_after { over_rules marked clean.now (member marks.now) (drop result.next (rules_of table.now)) (found ranked.new lines.new result.rank) ≡ over_rules marked clean.now (member marks.now) (drop i (rules_of table.now)) (found ranked.old lines.old rank) }
-    ensures awake { Awake marked clean.now (member marks.now) table.now index.now order.now (found ranked.new lines.new result.rank) counts.new waiting.new }
-{
-    match bits::lowest_from(waiting, i) {
-        Found::At(j) => {
-            let after = look(
-                table, index, order, ranked, lines, counts, waiting, clean, marks, marked, rank, j,
-            );
-            bits::remove(waiting, j);
-            Turn {
-                next: j + 1,
-                rank: after,
-            }
-        }
-        Found::Nothing => Turn { next: CODES, rank },
-    }
-}
-
-// One pass over all records that wait; the next rank.
-fn pass(
-    table: &[u16],
-    index: &[u16],
-    order: &[u16],
-    ranked: &mut [u64],
-    lines: &mut [u16],
-    counts: &mut [u8],
-    waiting: &mut [u64],
-    clean: &[u64],
-    marks: &[u64],
-    marked: bool,
-    rank: usize,
-) -> usize
-    requires { Awake marked clean.now (member marks.now) table.now index.now order.now (found ranked.old lines.old rank) counts.old waiting.old }
-    ensures result_after { found ranked.new lines.new result ≡ over_rules marked clean.now (member marks.now) (rules_of table.now) (found ranked.old lines.old rank) }
-    ensures awake { Awake marked clean.now (member marks.now) table.now index.now order.now (found ranked.new lines.new result) counts.new waiting.new }
+// One pass over all records that wait.
+fn pass(sources: &Sources, search: &mut Search, waiting: &mut [u64])
+    requires { AwakeIn sources.now search.old waiting.old }
+    ensures found_after { search.new.found ≡ over_rules_in sources.now (rules_of sources.now.table.words.now) search.old.found }
+    ensures awake { AwakeIn sources.now search.new waiting.new }
 {
     let mut i: usize = 0;
-    let mut reached = rank;
+    // The next record is the next one that waits, and looking at one may have others wait.
     while i < CODES {
-        let t = look_next(
-            table, index, order, ranked, lines, counts, waiting, clean, marks, marked, reached, i,
-        );
-        i = t.next;
-        reached = t.rank;
+        match bits::lowest_from(waiting, i) {
+            Some(j) => {
+                look(sources, search, waiting, j);
+                bits::remove(waiting, j);
+                i = j + 1;
+            }
+            None => return,
+        }
     }
-    reached
 }
 
-// All `n` records wait; passes until one adds nothing. The next rank.
-fn rest(
-    table: &[u16],
-    index: &[u16],
-    order: &[u16],
-    ranked: &mut [u64],
-    lines: &mut [u16],
-    counts: &mut [u8],
-    clean: &[u64],
-    marks: &[u64],
-    marked: bool,
-    rank: usize,
-    n: usize,
-) -> usize
-    requires { Ranking clean.now table.now index.now order.now (found ranked.old lines.old rank) counts.old × (n ≡ length (rules_of table.now)) }
-    ensures result_after { found ranked.new lines.new result ≡ found_at_rest marked clean.now (member marks.now) (rules_of table.now) (found ranked.old lines.old rank) }
-    ensures ranking { Ranking clean.now table.now index.now order.now (found ranked.new lines.new result) counts.new }
+// All records wait; passes until one adds nothing.
+fn rest(sources: &Sources, search: &mut Search)
+    requires { RankingIn sources.now search.old }
+    ensures found_after { search.new.found ≡ found_at_rest_in sources.now (rules_of sources.now.table.words.now) search.old.found }
+    ensures ranking { RankingIn sources.now search.new }
 {
-    let mut waiting = all_below(n);
-    let mut reached = rank;
+    let mut waiting = all_below(sources.order.count);
     let mut again = true;
     while again {
-        let before = reached;
-        reached = pass(
-            table,
-            index,
-            order,
-            ranked,
-            lines,
-            counts,
-            &mut waiting,
-            clean,
-            marks,
-            marked,
-            before,
-        );
-        again = before < reached;
+        let before = search.found.next_rank;
+        pass(sources, search, &mut waiting);
+        again = before < search.found.next_rank;
     }
-    reached
 }
 
 // A line for each literal that a settled marking holds.
-pub fn find_reasons(table: &[u16], index: &[u16], marks: &[u64]) -> Reasons
+pub fn find_reasons<'a>(table: &'a [u16], index: &'a Index, marks: &'a [u64]) -> ranks::Found
     requires { IndexOf table.now index.now }
-    ensures ranked_value { result.ranked ≡ (reasons_found (rules_of table.now) (member marks.now)).ranked }
-    ensures lines_value { result.lines ≡ (reasons_found (rules_of table.now) (member marks.now)).lines }
+    ensures { result ≡ reasons_found (rules_of table.now) (member marks.now) }
 {
-    let mut order = [0u16; 2048];
-    let n = number_records(table, &mut order);
-    let mut ranked = [0u64; 16];
-    let mut lines = [0u16; 3072];
-    let mut counts = [0u8; 8192];
-    let mut clean = [0u64; 16];
-    let reached = rest(
-        table,
+    let mut order = Order {
+        numbers: [0u16; 1024],
+        places: [0u16; 1024],
+        count: 0,
+    };
+    number_records(table, &mut order);
+    let mut search = Search {
+        found: ranks::Found {
+            ranked: [0u64; 16],
+            lines: [justified::NO_LINE; 1024],
+            next_rank: 0,
+        },
+        counts: [0u8; 8192],
+        woken: [0u64; 16],
+    };
+    let table = IndexedTable {
+        words: table,
         index,
-        &order,
-        &mut ranked,
-        &mut lines,
-        &mut counts,
-        &clean,
-        marks,
-        false,
-        0,
-        n,
-    );
-    clean = ranked;
+    };
     rest(
-        table,
-        index,
-        &order,
-        &mut ranked,
-        &mut lines,
-        &mut counts,
-        &clean,
-        marks,
-        true,
-        reached,
-        n,
+        &Sources {
+            table,
+            order: &order,
+            heads: Heads { marks, clean: None },
+        },
+        &mut search,
     );
-    Reasons { ranked, lines }
+    rest(
+        &Sources {
+            table,
+            order: &order,
+            heads: Heads {
+                marks,
+                clean: Some(search.found.ranked),
+            },
+        },
+        &mut search,
+    );
+    search.found
 }

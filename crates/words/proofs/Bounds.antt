@@ -8,22 +8,21 @@ use lib.ListN.{length}
 use borrow.Author.Tests.{leb-true}
 use Rattle.refusal.proofs.Places.{PlacesTo, or_else_to, to_more, asking_to}
 use Rattle.refusal.specs.Numbers.{too_many_atoms, table_too_long, not_a_literal, second_rule, out_of_range}
-use Rattle.refusal.specs.declared.Checked.{Checked}
-use Rattle.refusal.specs.declared.Checked.TheVariants.{Accepted, Refused}
+use Rattle.refusal.specs.Checks.{Checked, asking}
 use Rattle.refusal.proofs.Laws.{demanding_holds}
 use Rattle.words.specs.declared.Due.{Due}
 use Rattle.words.specs.declared.Due.TheVariants.{Head, Line, Count, Size, Literal}
-use Rattle.refusal.specs.Checks.{asking}
 use Rattle.words.specs.Check.{code_fault, repeat_fault, fault, ended, walk, seen_after, next, no_heads, table_check}
+use Rattle.std.specs.Prelude.{Ok, Err}
 
 fault_within : (N : ℕ) (seen : ℕ → Bool) (due : Due) (p w : ℕ) → PlacesTo p (fault N seen due p w)
 fault_within N seen Head p w =
-    or_else_to p (code_fault N p w) (repeat_fault seen p w) (asking_to p (ltb w (2 * N)) (not_a_literal p) Accepted (omega arith, omega arith, omega arith) tt)
-    (asking_to p (not (seen w)) (second_rule p) Accepted (omega arith, omega arith, omega arith) tt)
-fault_within N seen Line p w = asking_to p (leb 0 w && leb w 32768) (out_of_range p) Accepted (omega arith, omega arith, omega arith) tt
-fault_within N seen Count p w = asking_to p (leb 0 w && leb w 64) (out_of_range p) Accepted (omega arith, omega arith, omega arith) tt
-fault_within N seen (Size g) p w = asking_to p (leb 1 w && leb w 64) (out_of_range p) Accepted (omega arith, omega arith, omega arith) tt
-fault_within N seen (Literal k g) p w = asking_to p (ltb w (2 * N)) (not_a_literal p) Accepted (omega arith, omega arith, omega arith) tt
+    or_else_to p (code_fault N p w) (repeat_fault seen p w) (asking_to p (ltb w (2 * N)) (not_a_literal p) (Ok tt) (omega arith, omega arith, omega arith) tt)
+    (asking_to p (not (seen w)) (second_rule p) (Ok tt) (omega arith, omega arith, omega arith) tt)
+fault_within N seen Line p w = asking_to p (leb 0 w && leb w 32768) (out_of_range p) (Ok tt) (omega arith, omega arith, omega arith) tt
+fault_within N seen Count p w = asking_to p (leb 0 w && leb w 64) (out_of_range p) (Ok tt) (omega arith, omega arith, omega arith) tt
+fault_within N seen (Size g) p w = asking_to p (leb 1 w && leb w 64) (out_of_range p) (Ok tt) (omega arith, omega arith, omega arith) tt
+fault_within N seen (Literal k g) p w = asking_to p (ltb w (2 * N)) (not_a_literal p) (Ok tt) (omega arith, omega arith, omega arith) tt
 
 ended_within : (due : Due) (p : ℕ) → PlacesTo p (ended due p)
 ended_within Head p = tt
@@ -47,5 +46,5 @@ unfolding table_check
 check_within N t =
     let first : Checked = walk N no_heads Head 0 t in
     asking_to 8192 (leb N 512) too_many_atoms (asking (leb (length t) 8192) table_too_long first) (omega arith, omega arith, omega arith)
-    (demanding_holds (PlacesTo 8192) Refused (leb (length t) 8192) table_too_long first (omega arith, omega arith, omega arith)
+    (demanding_holds (PlacesTo 8192) Err (leb (length t) 8192) table_too_long first (omega arith, omega arith, omega arith)
     (λ e. to_more (0 + length t) 8192 (let h = leb-true (length t) 8192 e in omega arith) first (walk_within N no_heads Head 0 t)))

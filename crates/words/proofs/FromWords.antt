@@ -13,7 +13,6 @@ use borrow.Author.Tests.{ltb-true, leb-true, not-true}
 use Rattle.sets.proofs.Tests.{and_both}
 use Rattle.sets.specs.Sets.{◌∈◌, ◌with◌}
 use Rattle.refusal.specs.Numbers.{cut_short, out_of_range, second_rule}
-use Rattle.refusal.specs.declared.Checked.TheVariants.{Accepted}
 use Rattle.words.specs.declared.Due.TheVariants.{Head, Line, Count}
 use Rattle.words.specs.Layout.{TableRecord, groups_words, words_of}
 use Rattle.refusal.specs.Checks.{asking}
@@ -22,20 +21,21 @@ use Rattle.words.specs.Within.{GroupWithin}
 use Rattle.refusal.proofs.Laws.{refused≢accepted, asking_accepted, or_else_accepted}
 use Rattle.words.proofs.Steps.{head_below}
 use Rattle.words.proofs.Good.{Good}
+use Rattle.std.specs.Prelude.{Ok}
 
-literal_below : (N p w : ℕ) → code_fault N p w ≡ Accepted → w < 2 * N
-literal_below N p w e = ltb-true w (2 * N) (asking_accepted (ltb w (2 * N)) _ Accepted e).0
+literal_below : (N p w : ℕ) → code_fault N p w ≡ Ok tt → w < 2 * N
+literal_below N p w e = ltb-true w (2 * N) (asking_accepted (ltb w (2 * N)) _ (Ok tt) e).0
 
-in_range : (least most p w : ℕ) → range_fault least most p w ≡ Accepted → (least ≤ w) × (w ≤ most)
+in_range : (least most p w : ℕ) → range_fault least most p w ≡ Ok tt → (least ≤ w) × (w ≤ most)
 in_range least most p w e =
-    let both = and_both (leb least w) (leb w most) (asking_accepted (leb least w && leb w most) (out_of_range p) Accepted e).0 in
+    let both = and_both (leb least w) (leb w most) (asking_accepted (leb least w && leb w most) (out_of_range p) (Ok tt) e).0 in
     (leb-true least w both.0, leb-true w most both.1)
 
-head_unseen : (N : ℕ) (seen : ℕ → Bool) (p w : ℕ) → fault N seen Head p w ≡ Accepted → seen w ≡ false
+head_unseen : (N : ℕ) (seen : ℕ → Bool) (p w : ℕ) → fault N seen Head p w ≡ Ok tt → seen w ≡ false
 head_unseen N seen p w e =
     not-true (seen w)
-    (asking_accepted (not (seen w)) (second_rule p) Accepted
-    (or_else_accepted (code_fault N p w) (asking (not (seen w)) (second_rule p) Accepted) e).1).0
+    (asking_accepted (not (seen w)) (second_rule p) (Ok tt)
+    (or_else_accepted (code_fault N p w) (asking (not (seen w)) (second_rule p) (Ok tt)) e).1).0
 
 group_cons : (N l : ℕ) (β : List ℕ) → l < 2 * N → ((x : ℕ) → x ∈ β → x < 2 * N) → (x : ℕ) → x ∈ l ∷ β → x < 2 * N
 group_cons N l β h hs x m = ⊎_elim (λ (e : x ≡ l). subst (λ (y : ℕ). y < 2 * N) (sym e) h) (hs x) (Memᴰ.cases_cons m)
@@ -51,9 +51,9 @@ record Literals (N : ℕ) (seen : ℕ → Bool) (k g : ℕ) (t : List ℕ) : Typ
   split : t ≡ β ++ rest
   size : length β ≡ k
   below : (l : ℕ) → l ∈ β → l < 2 * N
-  goes_on : walk N seen (groups_due g) place rest ≡ Accepted
+  goes_on : walk N seen (groups_due g) place rest ≡ Ok tt
 
-literals : (N : ℕ) (seen : ℕ → Bool) (k g p : ℕ) (t : List ℕ) → walk N seen (literals_due k g) p t ≡ Accepted → Literals N seen k g t
+literals : (N : ℕ) (seen : ℕ → Bool) (k g p : ℕ) (t : List ℕ) → walk N seen (literals_due k g) p t ≡ Ok tt → Literals N seen k g t
 unfolding walk
 literals N seen zero g p t e =
     record { β = []; rest = t; place = p; split = refl; size = refl; below = λ l m. absurd (Memᴰ.not-nil m); goes_on = e }
@@ -78,9 +78,9 @@ record Groups (N : ℕ) (seen : ℕ → Bool) (g : ℕ) (t : List ℕ) : Type 0 
   split : t ≡ groups_words βs ++ rest
   size : length βs ≡ g
   each : (β : List ℕ) → β ∈ βs → GroupWithin N β
-  goes_on : walk N seen Head place rest ≡ Accepted
+  goes_on : walk N seen Head place rest ≡ Ok tt
 
-groups : (N : ℕ) (seen : ℕ → Bool) (g p : ℕ) (t : List ℕ) → walk N seen (groups_due g) p t ≡ Accepted → Groups N seen g t
+groups : (N : ℕ) (seen : ℕ → Bool) (g p : ℕ) (t : List ℕ) → walk N seen (groups_due g) p t ≡ Ok tt → Groups N seen g t
 unfolding walk groups_words
 groups N seen zero p t e =
     record { βs = []; rest = t; place = p; split = refl; size = refl; each = λ β m. absurd (Memᴰ.not-nil m); goes_on = e }
@@ -115,7 +115,7 @@ pub record Records (N : ℕ) (seen : ℕ → Bool) (t : List ℕ) : Type 0 where
   pub split : t ≡ words_of Q
   pub good : Good N seen Q
 
-pub records : (N : ℕ) (seen : ℕ → Bool) (n p : ℕ) (t : List ℕ) → length t ≤ n → walk N seen Head p t ≡ Accepted → Records N seen t
+pub records : (N : ℕ) (seen : ℕ → Bool) (n p : ℕ) (t : List ℕ) → length t ≤ n → walk N seen Head p t ≡ Ok tt → Records N seen t
 unfolding walk words_of
 records N seen zero p [] h e = record { Q = []; split = refl; good = tt }
 records N seen (suc n) p [] h e = record { Q = []; split = refl; good = tt }

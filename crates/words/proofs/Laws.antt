@@ -12,11 +12,9 @@ use borrow.Author.Tests.{leb-true, le-leb}
 use Rattle.paper.specs.Rules.{Rule, OneRulePerHead, HeadsBelow}
 use Rattle.sets.specs.Sets.{◌∈◌}
 use Rattle.refusal.specs.Numbers.{too_many_atoms, table_too_long}
-use Rattle.refusal.specs.declared.Checked.{Checked}
-use Rattle.refusal.specs.declared.Checked.TheVariants.{Accepted}
+use Rattle.refusal.specs.Checks.{Checked, asking}
 use Rattle.words.specs.declared.Due.TheVariants.{Head}
 use Rattle.words.specs.Layout.{TableRecord, words_of, records_of, rules_of}
-use Rattle.refusal.specs.Checks.{asking}
 use Rattle.words.specs.Check.{no_heads, walk, table_check, AcceptedTable}
 use Rattle.words.specs.Within.{DistinctHeads, Within}
 use Rattle.refusal.proofs.Laws.{asking_accepted}
@@ -24,6 +22,7 @@ use Rattle.words.proofs.Reading.{records_of_words_of}
 use Rattle.words.proofs.Good.{good_heads, good_lines, good_distinct, good_bodies, good_of}
 use Rattle.words.proofs.FromWords.{Records, records}
 use Rattle.words.proofs.FromRecords.{accept_records}
+use Rattle.std.specs.Prelude.{Ok}
 
 -- with distinct heads there is only one rule for each head
 pub distinct_one_rule : (R : List Rule) → DistinctHeads R → OneRulePerHead R
@@ -45,7 +44,7 @@ pub accepted_length : (N : ℕ) (t : List ℕ) → AcceptedTable N t → length 
 unfolding table_check
 accepted_length N t a = leb-true (length t) 8192 (asking_accepted (leb (length t) 8192) _ _ (asking_accepted (leb N 512) _ _ a).1).0
 
-pub accepted_walk : (N : ℕ) (t : List ℕ) → AcceptedTable N t → walk N no_heads Head 0 t ≡ Accepted
+pub accepted_walk : (N : ℕ) (t : List ℕ) → AcceptedTable N t → walk N no_heads Head 0 t ≡ Ok tt
 unfolding table_check
 accepted_walk N t a = (asking_accepted (leb (length t) 8192) _ _ (asking_accepted (leb N 512) _ _ a).1).1
 
@@ -93,7 +92,7 @@ accepted_literals N t a ρ β l m m' m'' = (((accepted_within N t a).each_body �
 -- the empty table is accepted for every allowed N
 pub empty_accepted : (N : ℕ) → N ≤ 512 → AcceptedTable N []
 unfolding table_check walk
-empty_accepted N h = ap (λ (b : Bool). asking b too_many_atoms Accepted) (le-leb N 512 h)
+empty_accepted N h = ap (λ (b : Bool). asking b too_many_atoms (Ok tt)) (le-leb N 512 h)
 
 -- two answers that the promise of the check allows are equal
 pub check_determined : (N : ℕ) (t : List ℕ) (r r' : Checked) → r ≡ table_check N t → r' ≡ table_check N t → r ≡ r'

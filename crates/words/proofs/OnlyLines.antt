@@ -7,9 +7,7 @@ use lib.Dec.{leb}
 use lib.ListN.{length, take, drop}
 use Rattle.paper.specs.Rules.{Rule}
 use Rattle.refusal.specs.Numbers.{too_many_atoms, table_too_long}
-use Rattle.refusal.specs.declared.Checked.{Checked}
-use Rattle.refusal.specs.declared.Checked.TheVariants.{Accepted}
-use Rattle.refusal.specs.Checks.{asking, or_else}
+use Rattle.refusal.specs.Checks.{Checked, asking, or_else}
 use Rattle.refusal.proofs.Laws.{or_else_accepted}
 use Rattle.words.specs.declared.Due.{Due}
 use Rattle.words.specs.declared.Due.TheVariants.{Head, Line, Count, Size, Literal}
@@ -17,6 +15,7 @@ use Rattle.words.specs.Layout.{take_groups, drop_groups, records_within, records
 use Rattle.words.specs.Check.{fault, walk, seen_after, next, groups_due, literals_due, no_heads, table_check, AcceptedTable}
 use Rattle.words.specs.OnlyLines.{SameFrom, OnlyLinesDiffer}
 use Rattle.words.proofs.Laws.{accepted_walk}
+use Rattle.std.specs.Prelude.{Ok}
 
 same_length : (due : Due) (t u : List ℕ) → SameFrom due t u → length t ≡ length u
 unfolding SameFrom
@@ -70,20 +69,20 @@ same_rules (suc n) (v ∷ x ∷ m ∷ t) (w ∷ y ∷ k ∷ u) same =
 
 -- after the same word a check goes on alike where it did so with the rest
 same_word : (N M : ℕ) (seen other : ℕ → Bool) (due : Due) (p v w : ℕ) (t u : List ℕ) → v ≡ w
-    → (walk N (seen_after due seen v) (next due v) (suc p) t ≡ Accepted → walk N (seen_after due seen v) (next due v) (suc p) u ≡ Accepted
+    → (walk N (seen_after due seen v) (next due v) (suc p) t ≡ Ok tt → walk N (seen_after due seen v) (next due v) (suc p) u ≡ Ok tt
     → walk M (seen_after due other v) (next due v) (suc p) t ≡ walk M (seen_after due other v) (next due v) (suc p) u)
-    → walk N seen due p (v ∷ t) ≡ Accepted → walk N seen due p (w ∷ u) ≡ Accepted → walk M other due p (v ∷ t) ≡ walk M other due p (w ∷ u)
+    → walk N seen due p (v ∷ t) ≡ Ok tt → walk N seen due p (w ∷ u) ≡ Ok tt → walk M other due p (v ∷ t) ≡ walk M other due p (w ∷ u)
 unfolding walk
 same_word N M seen other due p v w t u same onward e e' =
     let rest : ℕ → List ℕ → Checked = λ x l. walk N (seen_after due seen x) (next due x) (suc p) l in
     let a = or_else_accepted (fault N seen due p v) (rest v t) e in
     let b = or_else_accepted (fault N seen due p w) (rest w u) e' in
-    ap (or_else (fault M other due p v)) (onward a.1 (subst (λ (x : ℕ). rest x u ≡ Accepted) (sym same) b.1))
+    ap (or_else (fault M other due p v)) (onward a.1 (subst (λ (x : ℕ). rest x u ≡ Ok tt) (sym same) b.1))
     ∙ ap (λ (x : ℕ). or_else (fault M other due p x) (walk M (seen_after due other x) (next due x) (suc p) u)) same
 
 -- what one check accepts on both sides, another answers alike
 same_walk : (N M : ℕ) (seen other : ℕ → Bool) (due : Due) (p : ℕ) (t u : List ℕ) → SameFrom due t u
-    → walk N seen due p t ≡ Accepted → walk N seen due p u ≡ Accepted → walk M other due p t ≡ walk M other due p u
+    → walk N seen due p t ≡ Ok tt → walk N seen due p u ≡ Ok tt → walk M other due p t ≡ walk M other due p u
 unfolding walk SameFrom
 same_walk N M seen other due p [] [] same e e' = refl
 same_walk N M seen other due p [] (w ∷ u) same e e' = absurd same

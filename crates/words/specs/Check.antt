@@ -1,25 +1,23 @@
 -- Believed: the table check: 1, 2, then words left to right, and the first faulty word decides.
-use Rattle.std.specs.Prelude.{List, [], ◌∷◌, ◌≡◌, Bool, false, not, ◌&&◌, ℕ, zero, suc, ◌*◌, leb, ltb, length}
-use Rattle.refusal.specs.Checks.{or_else, asking}
+use Rattle.std.specs.Prelude.{List, [], ◌∷◌, ◌≡◌, Bool, false, not, ◌&&◌, ℕ, zero, suc, ◌*◌, leb, ltb, length, Ok, Err}
+use Rattle.refusal.specs.Checks.{or_else, asking, Checked}
 use Rattle.limits.specs.Limits.{most_atoms, most_words, most_in_body, most_line}
 use Rattle.refusal.specs.Numbers.{too_many_atoms, table_too_long, cut_short, not_a_literal, out_of_range, second_rule}
 use Rattle.sets.specs.Sets.{◌with◌}
-use Rattle.refusal.specs.declared.Checked.{Checked}
-use Rattle.refusal.specs.declared.Checked.TheVariants.{Accepted, Refused}
 use Rattle.words.specs.declared.Due.{Due}
 use Rattle.words.specs.declared.Due.TheVariants.{Head, Line, Count, Size, Literal}
 
 -- a literal code below 2N
 abbrev pub code_fault : ℕ → ℕ → ℕ → Checked
-code_fault N p w = asking (ltb w (2 * N)) (not_a_literal p) Accepted
+code_fault N p w = asking (ltb w (2 * N)) (not_a_literal p) (Ok tt)
 
 -- a head that no record before has
 abbrev pub repeat_fault : (ℕ → Bool) → ℕ → ℕ → Checked
-repeat_fault seen p w = asking (not (seen w)) (second_rule p) Accepted
+repeat_fault seen p w = asking (not (seen w)) (second_rule p) (Ok tt)
 
 -- a line, a number of groups or a length: not below the least, and not above the most
 abbrev pub range_fault : ℕ → ℕ → ℕ → ℕ → Checked
-range_fault least most p w = asking (leb least w && leb w most) (out_of_range p) Accepted
+range_fault least most p w = asking (leb least w && leb w most) (out_of_range p) (Ok tt)
 
 -- the fault of a word at place p, by what is due there; `seen` are the heads before it
 abbrev pub fault : ℕ → (ℕ → Bool) → Due → ℕ → ℕ → Checked
@@ -57,11 +55,11 @@ seen_after (Literal k g) seen w = seen
 
 -- the words end, so many of them: between two records, or inside one
 abbrev pub ended : Due → ℕ → Checked
-ended Head words = Accepted
-ended Line words = Refused (cut_short words)
-ended Count words = Refused (cut_short words)
-ended (Size g) words = Refused (cut_short words)
-ended (Literal k g) words = Refused (cut_short words)
+ended Head words = Ok tt
+ended Line words = Err (cut_short words)
+ended Count words = Err (cut_short words)
+ended (Size g) words = Err (cut_short words)
+ended (Literal k g) words = Err (cut_short words)
 
 -- words left to right from place p: the first faulty one decides
 unfoldable pub walk : ℕ → (ℕ → Bool) → Due → ℕ → List ℕ → Checked
@@ -74,11 +72,11 @@ no_heads w = false
 
 -- 1: N above 512
 abbrev pub too_many_atoms_fault : ℕ → Checked
-too_many_atoms_fault N = asking (leb N most_atoms) too_many_atoms Accepted
+too_many_atoms_fault N = asking (leb N most_atoms) too_many_atoms (Ok tt)
 
 -- 2: table above 8,192 words
 abbrev pub table_too_long_fault : List ℕ → Checked
-table_too_long_fault t = asking (leb (length t) most_words) table_too_long Accepted
+table_too_long_fault t = asking (leb (length t) most_words) table_too_long (Ok tt)
 
 -- the table check: N above 512, table above 8,192 words, then the words
 unfoldable pub table_check : ℕ → List ℕ → Checked
@@ -87,4 +85,4 @@ table_check N t =
 
 -- the check accepts the table
 abbrev pub AcceptedTable : ℕ → List ℕ → Type 0
-AcceptedTable N t = table_check N t ≡ Accepted
+AcceptedTable N t = table_check N t ≡ Ok tt

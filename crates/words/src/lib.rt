@@ -7,7 +7,7 @@ ghost use Rattle.refusal.specs.Numbers.{refusal};
 ghost use Rattle.words.specs.Flags.{noted};
 ghost use Rattle.words.specs.Check.{fault, code_fault, repeat_fault, range_fault, groups_due, literals_due, next, ended, no_heads, walk, table_too_long_fault, table_check};
 
-use refusal::Checked;
+use refusal::{Reason, Refusal};
 
 // What the next word is. A length or a literal says how many groups come after its own, a literal how many after it in its group.
 #[derive(Clone, Copy)]
@@ -37,7 +37,7 @@ pub fn word_inside(table: &[u16], i: usize) -> usize
     ensures value { result ≡ get_or table.now i 0 }
     ensures upper_bound { result < 65536 }
 {
-    table[i] as usize
+    usize::from(table[i])
 }
 
 // The word at `i`, 0 past the end.
@@ -45,54 +45,53 @@ pub fn word(table: &[u16], i: usize) -> usize
     ensures value { result ≡ get_or table.now i 0 }
     ensures upper_bound { result < 65536 }
 {
-    if i < table.len() {
-        word_inside(table, i)
-    } else {
-        0
-    }
+    table.get(i).map_or(0, |&w| usize::from(w))
 }
 
 // A literal code is below twice the number of atoms.
-fn code_fault(n: usize, at: usize, w: usize) -> Checked
+fn code_fault(n: usize, at: usize, w: usize) -> Result<(), Refusal>
     requires { n ≤ most_atoms }
     ensures { result ≡ code_fault n at w }
 {
     if w < 2 * n {
-        Checked::Accepted
+        Ok(())
     } else {
-        refusal::refused(refusal::NOT_A_LITERAL, at)
+        refusal::refused(Reason::NotALiteral, at)
     }
 }
 
 // A head was not seen before.
-fn repeat_fault(seen: &[u64], at: usize, w: usize) -> Checked
+fn repeat_fault(seen: &[u64], at: usize, w: usize) -> Result<(), Refusal>
     ensures { result ≡ repeat_fault (member seen.now) at w }
 {
     if bits::has(seen, w) {
-        refusal::refused(refusal::SECOND_RULE, at)
+        refusal::refused(Reason::SecondRule, at)
     } else {
-        Checked::Accepted
+        Ok(())
     }
 }
 
 // A line, a number of groups or a length is at least `least` and at most `most`.
-fn range_fault(least: usize, most: usize, at: usize, w: usize) -> Checked
+fn range_fault(least: usize, most: usize, at: usize, w: usize) -> Result<(), Refusal>
     ensures { result ≡ range_fault least most at w }
 {
     if least <= w && w <= most {
-        Checked::Accepted
+        Ok(())
     } else {
-        refusal::refused(refusal::OUT_OF_RANGE, at)
+        refusal::refused(Reason::OutOfRange, at)
     }
 }
 
 // The fault of the word at `at`, or none.
-fn fault_of(n: usize, seen: &[u64], due: Due, at: usize, w: usize) -> Checked
+fn fault_of(n: usize, seen: &[u64], due: Due, at: usize, w: usize) -> Result<(), Refusal>
     requires { n ≤ most_atoms }
     ensures { result ≡ fault n (member seen.now) due at w }
 {
     match due {
-        Due::Head => refusal::first_of(code_fault(n, at, w), repeat_fault(seen, at, w)),
+        Due::Head => {
+            code_fault(n, at, w)?;
+            repeat_fault(seen, at, w)
+        }
         Due::Line => range_fault(0, limits::MOST_LINE, at, w),
         Due::Count => range_fault(0, limits::MOST_IN_BODY, at, w),
         Due::Size(_) => range_fault(1, limits::MOST_IN_BODY, at, w),
@@ -137,66 +136,57 @@ fn note(seen: &mut [u64], due: Due, w: usize)
 {
     match due {
         Due::Head => bits::put(seen, w),
-        Due::Line => {}
-        Due::Count => {}
-        Due::Size(_) => {}
-        Due::Literal(_, _) => {}
+        Due::Line | Due::Count | Due::Size(_) | Due::Literal(_, _) => {}
     }
 }
 
 // The words have ended, so many of them.
-fn ended_at(due: Due, words: usize) -> Checked
+fn ended_at(due: Due, words: usize) -> Result<(), Refusal>
     ensures { result ≡ ended due words }
 {
     match due {
-        Due::Head => Checked::Accepted,
-        Due::Line => refusal::refused(refusal::CUT_SHORT, words),
-        Due::Count => refusal::refused(refusal::CUT_SHORT, words),
-        Due::Size(_) => refusal::refused(refusal::CUT_SHORT, words),
-        Due::Literal(_, _) => refusal::refused(refusal::CUT_SHORT, words),
+        Due::Head => Ok(()),
+        Due::Line | Due::Count | Due::Size(_) | Due::Literal(_, _) => {
+            refusal::refused(Reason::CutShort, words)
+        }
     }
 }
 
 // The words from left to right: the first faulty one decides.
-fn walk_words(n: usize, table: &[u16]) -> Checked
+fn walk_words(n: usize, table: &[u16]) -> Result<(), Refusal>
     requires { n ≤ most_atoms }
     ensures { result ≡ walk n no_heads Due.Head 0 table.now }
 {
     let mut seen = [0u64; 16];
     let mut due = Due::Head;
-    let mut i: usize = 0;
-    while i < table.len() {
-        let w = word(table, i);
-        if let Checked::Refused(r) = fault_of(n, &seen, due, i, w) {
-            return Checked::Refused(r);
-        }
+    for (i, &word) in table.iter().enumerate() {
+        let w = usize::from(word);
+        fault_of(n, &seen, due, i, w)?;
         note(&mut seen, due, w);
         due = next_due(due, w);
-        i += 1;
     }
-    ended_at(due, i)
+    ended_at(due, table.len())
 }
 
 // 2 alone.
-pub fn table_too_long(table: &[u16]) -> Checked
+pub fn table_too_long(table: &[u16]) -> Result<(), Refusal>
     ensures { result ≡ table_too_long_fault table.now }
 {
     if limits::MOST_WORDS < table.len() {
-        refusal::refused(refusal::TABLE_TOO_LONG, 0)
+        refusal::refused(Reason::TableTooLong, 0)
     } else {
-        Checked::Accepted
+        Ok(())
     }
 }
 
 // Is this a table for `n` atoms?
-pub fn check(n: u64, table: &[u16]) -> Checked
+#[tactic(auto, unfolding(crate::specs::Check::table_check))]
+pub fn check(n: u64, table: &[u16]) -> Result<(), Refusal>
     ensures { result ≡ table_check n table.now }
 {
     if limits::MOST_N < n {
-        return refusal::refused(refusal::TOO_MANY_ATOMS, 0);
+        return refusal::refused(Reason::TooManyAtoms, 0);
     }
-    if limits::MOST_WORDS < table.len() {
-        return refusal::refused(refusal::TABLE_TOO_LONG, 0);
-    }
+    table_too_long(table)?;
     walk_words(n as usize, table)
 }

@@ -35,9 +35,6 @@ overflow_add-n c =
       count≤ (64 * at-loop.w) (member c.args.set.now),
     )
 
-pub overflow_add-w : goal.overflow_add-w
-overflow_add-w c = omega arith
-
 pub loop-w-smaller : goal.loop-w-smaller
 loop-w-smaller c = omega arith
 

@@ -27,9 +27,6 @@ returns-then-x-ne0 c =
     lowest_turn c.args.set.now (1024 - 64 * c.args.first) (64 * c.args.first)
     l.w (omega arith) (omega arith) (at-shared-slice-known.given l.w).fits c.word-x.ensures c.if-x-ne0.true l.invariant.2
 
-pub overflow_add-w : goal.overflow_add-w
-overflow_add-w c = omega arith
-
 pub loop-w-smaller : goal.loop-w-smaller
 loop-w-smaller c = omega arith
 

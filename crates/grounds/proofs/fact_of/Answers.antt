@@ -1,16 +1,17 @@
-use mathlib.Core.Path.{refl, ap}
+use mathlib.Core.Path.{ap}
+use borrow.Author.Tests.{ne_eqb}
 use lib.Dec.{eqb}
 use Rattle.grounds.proofs.Nth.{no_groups_lem, some_groups}
 use Rattle.grounds.proofs.fact_of.Goals as goal
 
--- src/lib.rt:67:9
-pub returns-then-word_inside-eq0 : goal.returns-then-word_inside-eq0
-returns-then-word_inside-eq0 c =
-    let t = c.args.table.now in
-    let e = no_groups_lem t c.args.at _ c.word_inside.ensures.value c.if-word_inside-eq0.true in
-    rw e (ap (λ x. eqb c.args.l x) c.word_inside-then-word_inside-eq0.ensures.value)
+pub returns-then-group_count-eq0 : goal.returns-then-group_count-eq0
+returns-then-group_count-eq0 c =
+    let rule = c.args.rule.now in
+    let e = no_groups_lem rule.record.table.now rule.record.at _ c.group_count.ensures c.if-group_count-eq0.true in
+    rw e (ap (λ x. eqb c.args.l x) c.head.ensures.value)
 
--- src/lib.rt:62:1
-pub returns : goal.returns
-returns c =
-    rw (some_groups c.args.table.now c.args.at _ c.word_inside.ensures.value c.if-word_inside-eq0.false c.requires.1) refl
+pub returns-else-group_count-eq0 : goal.returns-else-group_count-eq0
+returns-else-group_count-eq0 c =
+    let rule = c.args.rule.now in
+    let some = some_groups rule.record.table.now rule.record.at _ c.group_count.ensures c.if-group_count-eq0.false rule.record.whole in
+    rw some (ne_eqb _ _ c.if-group_count-eq0.false)

@@ -6,7 +6,7 @@ use Rattle.grounds.proofs.justified_lines.Given as goal
 
 abbrev pub invariant-loop-at : goal.invariant-loop-at
 invariant-loop-at l =
-    Judging (given l.n l.values) l.lines l.table l.at l.ok
+    Judging (given l.values.n l.values.codes.now) l.lines l.table l.at l.ok
 
 abbrev pub decreases-loop-at : goal.decreases-loop-at
 decreases-loop-at l =

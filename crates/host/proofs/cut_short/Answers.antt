@@ -1,9 +1,9 @@
 use Rattle.host.proofs.Evaluating.{cut_refused, cut_accepted}
 use Rattle.host.proofs.cut_short.Goals as goal
 
-pub returns-in-Refused : goal.returns-in-Refused
-returns-in-Refused c =
-    cut_refused _ _ _ c.requires.1 c.in-Refused.is
+pub returns-in-Err : goal.returns-in-Err
+returns-in-Err c =
+    cut_refused _ _ _ c.requires.1 c.in-Err.is
 
 pub returns : goal.returns
 returns c =

@@ -4,8 +4,8 @@ use Rattle.host.proofs.pack_decided.Goals as goal
 
 pub pack-requires : goal.pack-requires
 pack-requires c =
-    c.requires _ c.in-Refused.is
+    c.requires _ c.in-Err.is
 
-pub returns-in-Refused : goal.returns-in-Refused
-returns-in-Refused c =
-    c.pack.ensures ∙ sym (ap packed_decided c.in-Refused.is)
+pub returns-in-Err : goal.returns-in-Err
+returns-in-Err c =
+    c.pack.ensures ∙ sym (ap packed_decided c.in-Err.is)

@@ -4,8 +4,8 @@ use Rattle.hostreasons.proofs.pack_checked.Goals as goal
 
 pub pack_readable-requires : goal.pack_readable-requires
 pack_readable-requires c =
-    c.requires _ c.in-Refused.is
+    c.requires _ c.in-Err.is
 
-pub returns-in-Refused : goal.returns-in-Refused
-returns-in-Refused c =
-    c.pack_readable.ensures ∙ sym (ap packed_check c.in-Refused.is)
+pub returns-in-Err : goal.returns-in-Err
+returns-in-Err c =
+    c.pack_readable.ensures ∙ sym (ap packed_check c.in-Err.is)

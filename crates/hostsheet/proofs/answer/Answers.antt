@@ -4,8 +4,8 @@ use Rattle.hostsheet.proofs.answer.Goals as goal
 
 pub pack-requires : goal.pack-requires
 pack-requires c =
-    c.requires _ c.in-Refused.is
+    c.requires _ c.in-Err.is
 
-pub returns-in-Refused : goal.returns-in-Refused
-returns-in-Refused c =
-    c.pack.ensures ∙ ap packed_answer (sym c.in-Refused.is)
+pub returns-in-Err : goal.returns-in-Err
+returns-in-Err c =
+    c.pack.ensures ∙ ap packed_answer (sym c.in-Err.is)

@@ -1,83 +1,70 @@
-use Prim.Native.Nat.{◌-◌, ◌+◌}
+use Prim.Native.Nat.{ℕ, ◌+◌, ◌-◌}
 use native.Mathlib.Omega.{arith}
-use mathlib.Core.Path.{◌≡◌, refl, ap, ◌∙◌}
+use mathlib.Core.Path.{◌≡◌, ap, ◌∙◌}
+use lib.ListN.{take, drop}
+use Rattle.words.specs.Layout.{literals_at}
 use Rattle.bits.specs.Sets.{member}
-use Rattle.least.specs.declared.WhichGroup.TheVariants.{Number}
-use Rattle.least.proofs.Walk.{group_inside, group_fits, groups_go_on, groups_end, skipped_on, which_goes_on, which_ends, which_none}
+use Rattle.paper.specs.Fires.{wholly}
+use Rattle.least.proofs.Walk.{all_wholly, group_inside, group_fits, groups_go_on, groups_end, skipped_on, which_goes_on, which_ends, which_none}
 use Rattle.least.proofs.lowest_group.Goals as goal
-
-pub loop-left-init : goal.loop-left-init
-loop-left-init c =
-    let m = c.args.m in
-    let one : m - m + 1 ≡ 1 = omega arith in
-    (c.requires.0, omega arith, c.requires.1, refl, omega arith, rw one refl)
 
 pub word_inside-k-requires : goal.word_inside-k-requires
 word_inside-k-requires c =
-    group_inside _ c.loop-left.at c.loop-left.left c.loop-left.invariant.2 c.loop-left-test.true
+    group_inside _ c.loop-g.at (c.args.m - c.loop-g.g) c.loop-g.invariant.2 (omega arith)
 
-pub overflow_add-literals : goal.overflow_add-literals
-overflow_add-literals c =
+pub slice_bounds-group_in-end : goal.slice_bounds-group_in-end
+slice_bounds-group_in-end c =
     omega (
       arith,
-      group_fits c.args.table.now c.loop-left.at c.loop-left.left _ c.loop-left.invariant.2 c.loop-left-test.true c.word_inside-k.ensures.value,
+      group_fits c.args.table.now c.loop-g.at (c.args.m - c.loop-g.g) _ c.loop-g.invariant.2 (omega arith) c.word_inside-k.ensures.value,
     )
 
-pub overflow_add-at : goal.overflow_add-at
-overflow_add-at c =
-    omega (
-      arith,
-      group_fits c.args.table.now c.loop-left.at c.loop-left.left _ c.loop-left.invariant.2 c.loop-left-test.true c.word_inside-k.ensures.value,
-    )
-
-pub group_in-requires : goal.group_in-requires
-group_in-requires c =
-    group_fits c.args.table.now c.loop-left.at c.loop-left.left _ c.loop-left.invariant.2 c.loop-left-test.true c.word_inside-k.ensures.value
-
-pub skip_groups-next-requires : goal.skip_groups-next-requires
-skip_groups-next-requires c =
-    let q = groups_go_on c.args.table.now c.loop-left.at c.loop-left.left _
-    c.loop-left.invariant.2 c.loop-left-test.true c.word_inside-k.ensures.value in
-    (q.inside, q.whole)
-
-pub overflow_sub-result : goal.overflow_sub-result
-overflow_sub-result c =
-    omega (arith, c.loop-left.invariant.4)
+pub skip_groups-requires : goal.skip_groups-requires
+skip_groups-requires c =
+    let q = groups_go_on c.args.table.now c.loop-g.at (c.args.m - c.loop-g.g) _
+    c.loop-g.invariant.2 (omega arith) c.word_inside-k.ensures.value in
+    let number : c.args.m - c.loop-g.g - 1 ≡ c.args.m - (c.loop-g.g + 1) = omega arith in
+    rw (← number) (q.inside, q.whole)
 
 pub returns-then-group_in : goal.returns-then-group_in
 returns-then-group_in c =
-    let taken = c.loop-left-test.true in
     let t = c.args.table.now in
     let k = c.word_inside-k.result in
-    let q = groups_go_on t c.loop-left.at c.loop-left.left k c.loop-left.invariant.2 taken c.word_inside-k.ensures.value in
-    let number : c.args.m - (c.loop-left.left - 1) ≡ c.args.m - c.loop-left.left + 1 = omega (arith, c.loop-left.invariant.4) in record {
-      which_value = ap Number number ∙ which_ends (member c.args.set.now) t c.loop-left.at c.loop-left.left k _ _ q
-          c.group_in.ensures c.if-group_in.true ∙ c.loop-left.invariant.5;
-      groups_skipped = skipped_on t c.args.first c.args.m _ _ c.skip_groups-next.result
-          (omega (arith, c.loop-left.invariant.1)) (q.after_same ∙ c.loop-left.invariant.3) c.skip_groups-next.ensures;
+    let left = c.args.m - c.loop-g.g in
+    let q = groups_go_on t c.loop-g.at left k c.loop-g.invariant.2 (omega arith) c.word_inside-k.ensures.value in
+    let number : left - 1 ≡ c.args.m - (c.loop-g.g + 1) = omega arith in
+    let short : c.loop-g.at + 1 + k - (c.loop-g.at + 1) ≡ k = omega arith in
+    let b : c.group_in.result ≡ wholly (member c.args.set.now) (take k (drop (literals_at c.loop-g.at) t)) =
+    c.group_in.ensures ∙ all_wholly (member c.args.set.now) (take (c.loop-g.at + 1 + k - (c.loop-g.at + 1)) (drop (literals_at c.loop-g.at) t))
+    ∙ ap (λ (n : ℕ). wholly (member c.args.set.now) (take n (drop (literals_at c.loop-g.at) t))) short in
+    record {
+      which_value = which_ends (member c.args.set.now) t c.loop-g.at left k _ _ q b c.if-group_in.true ∙ c.loop-g.invariant.4;
+      groups_skipped = skipped_on t c.args.first c.args.m _ (c.args.m - (c.loop-g.g + 1)) c.skip_groups.result
+          (omega (arith, c.loop-g.invariant.1)) (rw (← number) (q.after_same ∙ c.loop-g.invariant.3)) c.skip_groups.ensures;
     }
 
-pub loop-left-preserved : goal.loop-left-preserved
-loop-left-preserved c =
-    let taken = c.loop-left-test.true in
+pub loop-g-preserved : goal.loop-g-preserved
+loop-g-preserved c =
     let t = c.args.table.now in
-    let m = c.args.m in
     let k = c.word_inside-k.result in
-    let q = groups_go_on t c.loop-left.at c.loop-left.left k c.loop-left.invariant.2 taken c.word_inside-k.ensures.value in
-    let number : m - (c.loop-left.left - 1) + 1 ≡ m - c.loop-left.left + 1 + 1 = omega (arith, c.loop-left.invariant.4) in (
+    let left = c.args.m - c.loop-g.g in
+    let q = groups_go_on t c.loop-g.at left k c.loop-g.invariant.2 (omega arith) c.word_inside-k.ensures.value in
+    let short : c.loop-g.at + 1 + k - (c.loop-g.at + 1) ≡ k = omega arith in
+    let b : c.group_in.result ≡ wholly (member c.args.set.now) (take k (drop (literals_at c.loop-g.at) t)) =
+    c.group_in.ensures ∙ all_wholly (member c.args.set.now) (take (c.loop-g.at + 1 + k - (c.loop-g.at + 1)) (drop (literals_at c.loop-g.at) t))
+    ∙ ap (λ (n : ℕ). wholly (member c.args.set.now) (take n (drop (literals_at c.loop-g.at) t))) short in
+    let number : left - 1 ≡ c.args.m - (c.loop-g.g + 1) = omega arith in (
       q.inside,
-      omega (arith, c.loop-left.invariant.1),
-      q.whole,
-      q.after_same ∙ c.loop-left.invariant.3,
-      omega (arith, c.loop-left.invariant.4),
-      rw number (which_goes_on (member c.args.set.now) t c.loop-left.at c.loop-left.left k _ _ q
-          c.group_in.ensures c.if-group_in.false ∙ c.loop-left.invariant.5),
+      omega (arith, c.loop-g.invariant.1),
+      rw (← number) q.whole,
+      rw (← number) (q.after_same ∙ c.loop-g.invariant.3),
+      rw (← number) (which_goes_on (member c.args.set.now) t c.loop-g.at left k _ _ q b c.if-group_in.false ∙ c.loop-g.invariant.4),
     )
 
 pub returns : goal.returns
 returns c =
-    let inv = c.loop-left.invariant in record {
-      which_value = which_none (member c.args.set.now) c.args.table.now c.loop-left.at c.loop-left.left _ c.loop-left-test.false ∙ inv.5;
+    let inv = c.loop-g.invariant in record {
+      which_value = which_none (member c.args.set.now) c.args.table.now c.loop-g.at (c.args.m - c.loop-g.g) _ (omega arith) ∙ inv.4;
       groups_skipped = groups_end c.args.table.now c.args.first c.args.m
-          c.loop-left.at c.loop-left.left c.loop-left-test.false (inv.0, inv.1, inv.2, inv.3);
+          c.loop-g.at (c.args.m - c.loop-g.g) (omega arith) (inv.0, inv.1, inv.2, inv.3);
     }

@@ -1,37 +1,23 @@
+use Prim.Native.Nat.{◌+◌, ◌-◌}
 use native.Mathlib.Omega.{arith}
-use mathlib.Core.Path.{refl, ◌∙◌}
-use Rattle.least.proofs.Walk.{group_inside, group_fits, groups_go_on, groups_end}
+use mathlib.Core.Path.{◌≡◌, ◌∙◌}
+use Rattle.words.specs.Layout.{literals_at}
+use Rattle.least.proofs.Walk.{group_inside, groups_go_on, groups_end}
 use Rattle.least.proofs.skip_groups.Goals as goal
 
-pub loop-left-init : goal.loop-left-init
-loop-left-init c =
-    (c.requires.0, omega arith, c.requires.1, refl)
+pub word_inside-requires : goal.word_inside-requires
+word_inside-requires c =
+    group_inside _ c.loop.at (c.args.m - c.loop.counter) c.loop.invariant.2 (omega arith)
 
-pub word_inside-k-requires : goal.word_inside-k-requires
-word_inside-k-requires c =
-    group_inside _ c.loop-left.at c.loop-left.left c.loop-left.invariant.2 c.loop-left-test.true
-
-pub overflow_add-at : goal.overflow_add-at
-overflow_add-at c =
-    omega (
-      arith,
-      group_fits c.args.table.now c.loop-left.at c.loop-left.left _ c.loop-left.invariant.2 c.loop-left-test.true c.word_inside-k.ensures.value,
-    )
-
-pub overflow_add-at-in-loop-left : goal.overflow_add-at-in-loop-left
-overflow_add-at-in-loop-left c =
-    omega (
-      arith,
-      group_fits c.args.table.now c.loop-left.at c.loop-left.left _ c.loop-left.invariant.2 c.loop-left-test.true c.word_inside-k.ensures.value,
-    )
-
-pub loop-left-preserved : goal.loop-left-preserved
-loop-left-preserved c =
-    let q = groups_go_on c.args.table.now c.loop-left.at c.loop-left.left c.word_inside-k.result
-    c.loop-left.invariant.2 c.loop-left-test.true c.word_inside-k.ensures.value in
-    (q.inside, omega arith, q.whole, q.after_same ∙ c.loop-left.invariant.3)
+pub loop-preserved : goal.loop-preserved
+loop-preserved c =
+    let q = groups_go_on c.args.table.now c.loop.at (c.args.m - c.loop.counter) c.word_inside.result
+    c.loop.invariant.2 (omega arith) c.word_inside.ensures.value in
+    let e : c.args.m - c.loop.counter - 1 ≡ c.args.m - (c.loop.counter + 1) = omega arith in
+    let p : c.loop.at + (1 + c.word_inside.result) ≡ literals_at c.loop.at + c.word_inside.result = omega arith in
+    rw (p, ← e) (q.inside, omega arith, q.whole, q.after_same ∙ c.loop.invariant.3)
 
 pub returns : goal.returns
 returns c =
     groups_end c.args.table.now c.args.first c.args.m
-    c.loop-left.at c.loop-left.left c.loop-left-test.false c.loop-left.invariant
+    c.loop.at (c.args.m - c.loop.counter) (omega arith) c.loop.invariant

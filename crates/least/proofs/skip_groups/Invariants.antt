@@ -1,15 +1,11 @@
-use Prim.Native.Nat.{◌≤◌}
+use Prim.Native.Nat.{◌≤◌, ◌-◌}
 use mathlib.Core.Path.{◌≡◌}
 use lib.ListN.{length, drop}
 use Rattle.words.specs.RecordAt.{WholeGroups}
 use Rattle.words.specs.Layout.{drop_groups}
 use Rattle.least.proofs.skip_groups.Given as goal
 
-abbrev pub invariant-loop-left : goal.invariant-loop-left
-invariant-loop-left l =
-    (l.at ≤ length l.table) × (l.first ≤ l.at) × (WholeGroups l.left (drop l.at l.table))
-    × (drop_groups l.left (drop l.at l.table) ≡ drop_groups l.m (drop l.first l.table))
-
-abbrev pub decreases-loop-left : goal.decreases-loop-left
-decreases-loop-left l =
-    l.left
+abbrev pub invariant-loop : goal.invariant-loop
+invariant-loop l =
+    (l.at ≤ length l.table) × (l.first ≤ l.at) × (WholeGroups (l.m - l.counter) (drop l.at l.table))
+    × (drop_groups (l.m - l.counter) (drop l.at l.table) ≡ drop_groups l.m (drop l.first l.table))

@@ -1,4 +1,5 @@
-use mathlib.Core.Path.{sym}
+use mathlib.Core.Path.{sym, ◌∙◌}
+use borrow.Author.Tests.{ne_eqb}
 use native.Mathlib.Omega.{arith}
 use Rattle.names.proofs.Steps.{other_length_name}
 use Rattle.names.proofs.has_name.Goals as goal
@@ -16,4 +17,4 @@ returns-then-e-len c =
 
 pub returns-else-e-len : goal.returns-else-e-len
 returns-else-e-len c =
-    sym (other_length_name c.args.sheet.now c.args.e c.args.start c.args.len c.if-e-len.false)
+    ne_eqb _ _ c.if-e-len.false ∙ sym (other_length_name c.args.sheet.now c.args.e c.args.start c.args.len c.if-e-len.false)

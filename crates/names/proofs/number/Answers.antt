@@ -11,7 +11,7 @@ pub returns-then-has_name : goal.returns-then-has_name
 returns-then-has_name c =
     record {
       value = found_here c.args.sheet.now c.args.names.now _ c.args.count c.loop-i.i c.requires.count_in_bounds c.loop-i.invariant.1 _
-          c.entry-e.ensures.value _ c.loop-i-test.true c.has_name.ensures c.if-has_name.true;
+          c.entry.ensures.value _ c.loop-i-test.true c.has_name.ensures c.if-has_name.true;
       upper_bound = omega arith;
     }
 
@@ -19,7 +19,7 @@ pub loop-i-preserved : goal.loop-i-preserved
 loop-i-preserved c = (
   omega arith,
   search_on c.args.sheet.now c.args.names.now _ c.args.count c.loop-i.i c.requires.count_in_bounds c.loop-i.invariant.1 _
-      c.entry-e.ensures.value _ c.loop-i-test.true c.has_name.ensures c.if-has_name.false,
+      c.entry.ensures.value _ c.loop-i-test.true c.has_name.ensures c.if-has_name.false,
 )
 
 pub returns : goal.returns

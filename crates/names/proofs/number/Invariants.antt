@@ -1,5 +1,5 @@
 use mathlib.Core.Path.{◌≡◌}
-use Prim.Native.Nat.{◌+◌, ◌-◌, ◌≤◌}
+use Prim.Native.Nat.{◌+◌, ◌≤◌}
 use lib.ListN.{take, drop}
 use Rattle.names.specs.Names.{bytes_at, number_in}
 use Rattle.names.proofs.number.Given as goal
@@ -8,7 +8,3 @@ abbrev pub invariant-loop-i : goal.invariant-loop-i
 invariant-loop-i l =
     (l.i ≤ l.count) × (l.i + number_in l.sheet (drop l.i (take l.count l.names)) (bytes_at l.sheet l.start l.len)
     ≡ number_in l.sheet (take l.count l.names) (bytes_at l.sheet l.start l.len))
-
-abbrev pub decreases-loop-i : goal.decreases-loop-i
-decreases-loop-i l =
-    l.count - l.i

@@ -1,3 +1,4 @@
+use native.Mathlib.Omega.{arith}
 use mathlib.Core.Path.{ap, ◌∙◌}
 use lib.ListN.{length}
 use Rattle.bits.specs.Sets.{member}
@@ -6,16 +7,14 @@ use Rattle.pending.proofs.put_marked.Goals as goal
 
 pub loop-a-init : goal.loop-a-init
 loop-a-init c =
-    (c.requires.0, c.requires.1, marking_starts _ _)
+    (c.requires.0, marking_starts _ _)
 
 pub loop-a-preserved : goal.loop-a-preserved
 loop-a-preserved c = (
-  ap length c.put_pair.ensures
-      ∙ length_pair c.loop-a.set c.loop-a.a (member c.args.marks.now c.loop-a.a) ∙ c.loop-a.invariant.0,
-  c.loop-a.invariant.1,
-  marking_goes_on _ _ _ _ _ c.loop-a.invariant.0 c.loop-a-test.true c.loop-a.invariant.2 c.put_pair.ensures,
+  ap length c.put_pair.ensures ∙ length_pair c.loop-a.set c.loop-a.a (member c.args.marks.now c.loop-a.a) ∙ c.loop-a.invariant.0,
+  marking_goes_on _ _ _ _ _ c.loop-a.invariant.0 (omega arith) c.loop-a.invariant.1 c.put_pair.ensures,
 )
 
 pub returns : goal.returns
 returns c =
-    marking_ends _ _ _ _ c.loop-a.invariant.1 c.loop-a-test.false c.loop-a.invariant.2
+    marking_ends _ _ _ _ c.requires.1 (omega arith) c.loop-a.invariant.1

@@ -2,9 +2,9 @@ use mathlib.Core.Path.{sym, ◌∙◌}
 use Rattle.picks.specs.Entries.{PickAllows}
 use Rattle.picks.proofs.pick_by_value.Goals as goal
 
-pub returns-in-Refused : goal.returns-in-Refused
-returns-in-Refused c =
-    PickAllows.refused (sym c.pick_fault.ensures ∙ c.in-Refused.is)
+pub returns-in-Err : goal.returns-in-Err
+returns-in-Err c =
+    PickAllows.refused (sym c.pick_fault.ensures ∙ c.in-Err.is)
 
 pub mark_atom-requires : goal.mark_atom-requires
 mark_atom-requires c =

@@ -1,5 +1,4 @@
 use borrow.Author.Rules.{rules}
-use mathlib.Core.Path.{refl}
 use lib.ListN.{length}
 use Rattle.bits.specs.Sets.{member}
 use Rattle.picks.proofs.Accepted.{report_accepted}
@@ -9,38 +8,28 @@ use Rattle.index.proofs.Placed.{accepted_table}
 use Rattle.picks.specs.Entries.{ReportAllows}
 use Rattle.picks.proofs.report_settled.Goals as goal
 
-pub build-requires : goal.build-requires
-build-requires c = (
-  accepted_table c.args.record.n c.args.table.now (report_accepted c.args.record c.args.table.now (length c.args.values.now) c.requires).1,
-  refl,
-  refl,
-)
+pub build-rules-requires : goal.build-rules-requires
+build-rules-requires c =
+    let a = report_accepted c.args.record c.args.table.now (length c.args.values.now) c.requires in
+    (accepted_table c.args.record.n c.args.table.now a.1, c.empty-room.ensures)
 
 pub can_go_on-goes_on-requires : goal.can_go_on-goes_on-requires
-can_go_on-goes_on-requires c = (
-  (record_good _ (report_accepted c.args.record c.args.table.now (length c.args.values.now) c.requires).0).at_most_512,
-  search rules,
-  c.build.ensures.index_of,
-  c.build.ensures.facts_of,
-  accepted_heads c.args.record.n c.args.table.now (report_accepted
-      c.args.record c.args.table.now (length c.args.values.now) c.requires).1,
-)
+can_go_on-goes_on-requires c =
+    let a = report_accepted c.args.record c.args.table.now (length c.args.values.now) c.requires in
+    ((record_good _ a.0).at_most_512, search rules, rw c.build-rules.ensures (accepted_heads c.args.record.n c.args.table.now a.1))
 
 pub returns-then-goes_on : goal.returns-then-goes_on
 returns-then-goes_on c =
-    rw c.refused.ensures (ReportAllows.before_settled c.requires (c.can_go_on-goes_on.ensures.when_true c.if-goes_on.true))
-
-pub held-held-requires : goal.held-held-requires
-held-held-requires c =
-    (c.build.ensures.index_of, c.build.ensures.facts_of, search rules)
+    rw c.refused.ensures (ReportAllows.before_settled c.requires
+    ((rw c.build-rules.ensures at c.can_go_on-goes_on.ensures).when_true c.if-goes_on.true))
 
 pub write_values-requires : goal.write_values-requires
-write_values-requires c = (
-  (record_good _ (report_accepted c.args.record c.args.table.now (length c.args.values.now) c.requires).0).at_most_512,
-  (report_accepted c.args.record c.args.table.now (length c.args.values.now) c.requires).2,
-)
+write_values-requires c =
+    let a = report_accepted c.args.record c.args.table.now (length c.args.values.now) c.requires in
+    ((record_good _ a.0).at_most_512, a.2)
 
 pub returns : goal.returns
 returns c =
-    rw c.write_values.ensures (ReportAllows.reported c.requires (c.can_go_on-goes_on.ensures.when_false c.if-goes_on.false) (member
-    c.held-held.result) c.held-held.ensures)
+    rw c.write_values.ensures (ReportAllows.reported c.requires
+    ((rw c.build-rules.ensures at c.can_go_on-goes_on.ensures).when_false c.if-goes_on.false)
+    (member c.held-held.result) (rw c.build-rules.ensures at c.held-held.ensures))

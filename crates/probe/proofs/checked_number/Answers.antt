@@ -1,5 +1,5 @@
 use Rattle.probe.proofs.checked_number.Goals as goal
 
-pub returns-in-Refused : goal.returns-in-Refused
-returns-in-Refused c =
-    simp (c.in-Refused.is, c.packed_refusal.ensures)
+pub returns-in-Err : goal.returns-in-Err
+returns-in-Err c =
+    simp (c.in-Err.is, c.packed_refusal.ensures)

@@ -7,10 +7,10 @@ use Rattle.least.proofs.Recorded.{here, records_nothing}
 use Rattle.probe.specs.Packed.{WhichPacked}
 use Rattle.probe.proofs.probe_which_group.Goals as goal
 
-pub returns-in-Refused : goal.returns-in-Refused
-returns-in-Refused c =
+pub returns-in-Err : goal.returns-in-Err
+returns-in-Err c =
     subst⁻¹ (WhichPacked c.args.n c.args.table.now (member c.args.set.now)) c.packed_refusal.ensures
-    (WhichPacked.refused (sym c.check.ensures ∙ c.in-Refused.is))
+    (WhichPacked.refused (sym c.check.ensures ∙ c.in-Err.is))
 
 pub which_group-body-requires : goal.which_group-body-requires
 which_group-body-requires c =

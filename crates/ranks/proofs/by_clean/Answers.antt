@@ -1,15 +1,15 @@
-use Rattle.words.specs.RecordAt.{rule_at}
-use Rattle.ranks.proofs.Adding.{clean_first, ranked_second}
+use Rattle.ranks.proofs.Adding.{clean_first, second_one, second_other}
 use Rattle.ranks.proofs.by_clean.Goals as goal
 
-pub returns-then-first-eq0 : goal.returns-then-first-eq0
-returns-then-first-eq0 c =
-    let args = c.args in
-    ranked_second args.clean.now args.ranked.now (rule_at args.table.now args.at).groups
-    c.by_row-first.result.many c.by_row-first.result.group c.by_row-first.ensures c.if-first-eq0.true c.by_row.ensures
+pub returns-in-OneLine : goal.returns-in-OneLine
+returns-in-OneLine c =
+    second_one _ c.args.ranked.now _ c.line_by.ensures c.line_by-in-Nothing.ensures c.in-Nothing.is c.in-OneLine.is
 
-pub returns : goal.returns
-returns c =
-    let args = c.args in
-    clean_first args.clean.now args.ranked.now (rule_at args.table.now args.at).groups
-    c.by_row-first.result.many c.by_row-first.result.group c.by_row-first.ensures c.if-first-eq0.false
+pub returns-in_default-line_by : goal.returns-in_default-line_by
+returns-in_default-line_by c =
+    second_other _ c.args.ranked.now _ c.line_by.ensures c.line_by-in-Nothing.ensures c.in-Nothing.is
+    c.in_default-line_by.not-OneLine
+
+pub returns-in_default : goal.returns-in_default
+returns-in_default c =
+    clean_first _ c.args.ranked.now _ c.line_by.ensures c.in_default.not-Nothing

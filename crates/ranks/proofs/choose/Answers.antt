@@ -4,18 +4,18 @@ use Rattle.ranks.proofs.choose.Goals as goal
 
 pub returns-then-not_its_turn : goal.returns-then-not_its_turn
 returns-then-not_its_turn c =
-    let args = c.args in
-    adds_nothing args.marked args.clean.now (member args.marks.now) args.ranked.now args.table.now args.at c.requires.1
-    c.not_its_turn.ensures c.if-not_its_turn.true
+    let a = c.args in
+    adds_nothing a.marked a.clean.now (member a.marks.now) a.ranked.now a.rule.now.table.now a.rule.now.at
+    c.head.ensures.value c.not_its_turn.ensures c.if-not_its_turn.true
 
 pub returns-then-marked : goal.returns-then-marked
 returns-then-marked c =
-    let args = c.args in
-    adds_by_clean args.marked args.clean.now (member args.marks.now) args.ranked.now args.table.now args.at c.requires.1
-    c.not_its_turn.ensures c.if-not_its_turn.false c.if-marked.true c.by_clean.ensures
+    let a = c.args in
+    adds_by_clean a.marked a.clean.now (member a.marks.now) a.ranked.now a.rule.now.table.now a.rule.now.at
+    c.head.ensures.value c.not_its_turn.ensures c.if-not_its_turn.false c.if-marked.true c.by_clean.ensures
 
 pub returns-else-marked : goal.returns-else-marked
 returns-else-marked c =
-    let args = c.args in
-    adds_by_ranked args.marked args.clean.now (member args.marks.now) args.ranked.now args.table.now args.at c.requires.1
-    c.not_its_turn.ensures c.if-not_its_turn.false c.if-marked.false c.by_row.ensures
+    let a = c.args in
+    adds_by_ranked a.marked a.clean.now (member a.marks.now) a.ranked.now a.rule.now.table.now a.rule.now.at
+    c.head.ensures.value c.not_its_turn.ensures c.if-not_its_turn.false c.if-marked.false c.line_by.ensures

@@ -1,11 +1,7 @@
 use native.Mathlib.Omega.{arith}
-use mathlib.Core.Path.{refl, ◌∙◌}
+use mathlib.Core.Path.{◌∙◌}
 use Rattle.reasoncheck.proofs.Checks.{code_good, code_bad, code_end}
 use Rattle.reasoncheck.proofs.codes_fault.Goals as goal
-
-pub loop-a-init : goal.loop-a-init
-loop-a-init c =
-    refl
 
 pub returns-then-values-a-gt3 : goal.returns-then-values-a-gt3
 returns-then-values-a-gt3 c =

@@ -1,51 +1,42 @@
 use native.Mathlib.Omega.{arith}
-use mathlib.Core.Path.{subst⁻¹}
+use mathlib.Core.Path.{sym, ◌∙◌, subst⁻¹}
 use Rattle.values.specs.Given.{given}
 use Rattle.reasoncheck.specs.Matching.{LinesAllow}
-use Rattle.reasoncheck.proofs.Matches.{passing_start, passing_next, passing_fails, passing_end, below_length}
+use Rattle.reasoncheck.proofs.Matches.{passing_start, passing_next, passing_unwanted, passing_fails, passing_end, below_length}
+use Rattle.reasoncheck.proofs.line_fault.Goals.{then-wants_line+else-not-line_holds, else-wants_line}
 use Rattle.reasoncheck.proofs.line_fault.Goals as goal
 
 pub loop-l-init : goal.loop-l-init
 loop-l-init c =
     passing_start _ _
 
-pub overflow_mul-n : goal.overflow_mul-n
-overflow_mul-n c =
-    omega (arith, c.requires.1)
-
 pub overflow_add-k : goal.overflow_add-k
 overflow_add-k c =
     let w = c.loop-l.invariant.count_is in
-    omega (
-      arith,
-      below_length (given c.args.n c.args.values.now)
-          c.loop-l.l,
-      c.loop-l-test.true,
-      c.requires.1,
-    )
+    let values = c.args.values.now in
+    omega (arith, below_length (given values.n values.codes.now) c.loop-l.l, c.loop-l-test.true, c.requires)
 
-pub returns-then-wants_in_vain : goal.returns-then-wants_in_vain
-returns-then-wants_in_vain c =
-    subst⁻¹ (LinesAllow (given c.args.n c.args.values.now) _ _) c.refused.ensures
-    (passing_fails _ _ _ _ _ c.loop-l-test.true c.loop-l.invariant c.wants_in_vain.ensures c.if-wants_in_vain.true)
+pub returns-then-not-line_holds : goal.returns-then-not-line_holds
+returns-then-not-line_holds c =
+    let values = c.args.values.now in
+    subst⁻¹ (LinesAllow (given values.n values.codes.now) _ _) c.refused.ensures
+    (passing_fails _ _ _ _ _ c.loop-l-test.true c.loop-l.invariant (sym c.wants_line.ensures ∙ c.if-wants_line.true)
+    (sym c.line_holds.ensures ∙ c.if-not-line_holds.true))
 
-pub line_after-k-requires : goal.line_after-k-requires
-line_after-k-requires c =
-    let w = c.loop-l.invariant.count_is in (
-      c.requires.0,
-      c.loop-l-test.true,
-      omega (
-        arith,
-        below_length (given c.args.n c.args.values.now)
-            c.loop-l.l,
-        c.loop-l-test.true,
-        c.requires.1,
-      ),
-    )
+pub overflow_add-k-then-wants_line : goal.overflow_add-k-then-wants_line
+overflow_add-k-then-wants_line c =
+    let w = c.loop-l.invariant.count_is in
+    let values = c.args.values.now in
+    omega (arith, below_length (given values.n values.codes.now) c.loop-l.l, c.loop-l-test.true, c.requires)
 
 pub loop-l-preserved : goal.loop-l-preserved
 loop-l-preserved c =
-    passing_next _ _ _ _ _ c.loop-l.invariant c.wants_in_vain.ensures c.if-wants_in_vain.false c.line_after-k.ensures
+    elim c.if-wants_line.branch [
+      | then-wants_line+else-not-line_holds w ↦
+          rw w.k-is (passing_next _ _ _ _ c.loop-l.invariant (sym c.wants_line.ensures ∙ w.if-wants_line.true)
+          (sym w.line_holds.ensures ∙ w.if-not-line_holds.false))
+      | else-wants_line w ↦ rw w.k-is (passing_unwanted _ _ _ _ c.loop-l.invariant (sym c.wants_line.ensures ∙ w.if-wants_line.false))
+    ]
 
 pub returns : goal.returns
 returns c =

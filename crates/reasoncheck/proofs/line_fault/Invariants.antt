@@ -1,4 +1,3 @@
-use Prim.Native.Nat.{◌*◌, ◌-◌}
 use mathlib.Core.Bool.{◌&&◌}
 use lib.Dec.{leb}
 use Rattle.limits.specs.Limits.{most_rank}
@@ -10,8 +9,4 @@ use Rattle.reasoncheck.proofs.line_fault.Given as goal
 
 abbrev pub invariant-loop-l : goal.invariant-loop-l
 invariant-loop-l l =
-    Passing (given l.n l.values) (λ x. leb (rank_in l.lines x) most_rank && member l.ok x) l.l l.k
-
-abbrev pub decreases-loop-l : goal.decreases-loop-l
-decreases-loop-l l =
-    2 * l.n - l.l
+    Passing (given l.values.n l.values.codes.now) (λ x. leb (rank_in l.lines x) most_rank && member l.ok x) l.l l.k

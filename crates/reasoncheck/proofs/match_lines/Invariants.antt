@@ -1,7 +1,5 @@
-use Prim.Native.Nat.{◌*◌, ◌-◌, ◌≤◌}
+use Prim.Native.Nat.{◌≤◌}
 use mathlib.Core.List.{List}
-use mathlib.Core.Path.{◌≡◌}
-use lib.ListN.{length}
 use Rattle.values.specs.Given.{given}
 use Rattle.reasontext.specs.ReasonSheet.{ReasonLine}
 use Rattle.reasoncheck.specs.Matching.{NumbersHold}
@@ -10,9 +8,5 @@ use Rattle.reasoncheck.proofs.match_lines.Given as goal
 
 abbrev pub invariant-loop-l : goal.invariant-loop-l
 invariant-loop-l l =
-    (l.k ≤ l.l) × (l.l ≤ 2 * l.n) × (length l.lines ≡ 3072) × ((ls : List ReasonLine) → NumbersHold l.numbers l.count ls → Matching
-    (given l.n l.values) ls l.l l.k l.lines)
-
-abbrev pub decreases-loop-l : goal.decreases-loop-l
-decreases-loop-l l =
-    2 * l.n - l.l
+    (l.k ≤ l.l) × ((ls : List ReasonLine) → NumbersHold l.text.numbers.now l.text.count ls → Matching
+    (given l.values.n l.values.codes.now) ls l.l l.k l.lines)

@@ -1,22 +1,22 @@
 use mathlib.Core.Path.{sym, ◌∙◌}
 use native.Mathlib.Omega.{arith}
-use Rattle.reasoncheck.specs.Matching.{wants_none, has_not}
-use Rattle.reasoncheck.proofs.Matches.{matched_own, matched_other}
+use Rattle.reasoncheck.specs.Matching.{wants_none, has_its_own, has_not}
+use Rattle.reasoncheck.proofs.match_literal.Goals.{then-text-k-via-then-text-k, then-text-k-via-else-text-k+then-literal-l}
 use Rattle.reasoncheck.proofs.match_literal.Goals as goal
 
-pub returns-then-word-l : goal.returns-then-word-l
-returns-then-word-l c =
-    matched_own _ _ _ _ _ _ c.wants_line.ensures c.if-wants_line.true c.if-k-count.true c.word.ensures.value c.if-word-l.true
-    c.take_line.ensures
+pub returns-then-not-wants_line : goal.returns-then-not-wants_line
+returns-then-not-wants_line c =
+    wants_none (sym c.wants_line.ensures ∙ c.if-not-wants_line.true)
 
-pub returns-else-word-l : goal.returns-else-word-l
-returns-else-word-l c =
-    matched_other _ _ _ _ _ _ c.wants_line.ensures c.if-wants_line.true c.word.ensures.value c.if-word-l.false
-
-pub returns-else-k-count : goal.returns-else-k-count
-returns-else-k-count c =
-    has_not (sym c.wants_line.ensures ∙ c.if-wants_line.true) (λ lt q. let k = c.if-k-count.false in omega arith)
+pub returns-then-text-k : goal.returns-then-text-k
+returns-then-text-k c =
+    has_not (sym c.wants_line.ensures ∙ c.if-not-wants_line.false) (λ lt e.
+    elim c.then-text-k.branch [
+      | then-text-k-via-then-text-k w ↦ let k = w.if-text-k.true in omega arith
+      | then-text-k-via-else-text-k+then-literal-l w ↦ w.if-literal-l.true (w.literal.ensures ∙ e)
+    ])
 
 pub returns : goal.returns
 returns c =
-    wants_none (sym c.wants_line.ensures ∙ c.if-wants_line.false)
+    rw c.line.ensures (has_its_own (sym c.wants_line.ensures ∙ c.if-not-wants_line.false) c.if-text-k.false
+    (sym c.literal.ensures ∙ c.if-literal-l.false))

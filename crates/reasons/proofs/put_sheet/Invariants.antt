@@ -1,5 +1,4 @@
 use mathlib.Core.Path.{◌≡◌}
-use Prim.Native.Nat.{◌-◌, ◌≤◌}
 use lib.ListN.{length}
 use lib.Seq.{sets}
 use Rattle.reasontext.specs.ReasonSheet.{reason_text}
@@ -8,9 +7,4 @@ use Rattle.reasons.proofs.put_sheet.Given as goal
 
 abbrev pub invariant-loop-l : goal.invariant-loop-l
 invariant-loop-l l =
-    (l.at ≡ length (reason_text (lines_found l.ranked l.lines l.l)))
-    × (l.text ≡ sets l.initial.text 0 (reason_text (lines_found l.ranked l.lines l.l))) × (l.l ≤ l.n)
-
-abbrev pub decreases-loop-l : goal.decreases-loop-l
-decreases-loop-l l =
-    l.n - l.l
+    (l.at ≡ length (reason_text (lines_found l.found l.l))) × (l.text ≡ sets l.initial.text 0 (reason_text (lines_found l.found l.l)))

@@ -1,5 +1,5 @@
+use Prim.Native.Nat.{◌*◌, ◌≤◌}
 use mathlib.Core.Path.{◌≡◌}
-use Prim.Native.Nat.{◌*◌, ◌-◌, ◌≤◌}
 use lib.ListN.{length}
 use Rattle.reasontext.specs.ReasonSheet.{reason_text}
 use Rattle.reasons.specs.Sheet.{lines_found}
@@ -7,8 +7,4 @@ use Rattle.reasons.proofs.sheet_length.Given as goal
 
 abbrev pub invariant-loop-l : goal.invariant-loop-l
 invariant-loop-l l =
-    (l.total ≡ length (reason_text (lines_found l.ranked l.lines l.l))) × (l.total ≤ 24 * l.l) × (l.l ≤ l.n)
-
-abbrev pub decreases-loop-l : goal.decreases-loop-l
-decreases-loop-l l =
-    l.n - l.l
+    (l.total ≡ length (reason_text (lines_found l.found l.l))) × (l.total ≤ 24 * l.l)

@@ -1,24 +1,17 @@
 use native.Mathlib.Omega.{arith}
-use mathlib.Core.Path.{refl}
+use mathlib.Core.Path.{◌∙◌}
 use Rattle.words.proofs.Laws.{accepted_atoms, accepted_heads}
 use Rattle.index.proofs.Placed.{accepted_table}
 use Rattle.reasons.proofs.Writing.{printed_allowed}
 use Rattle.reasons.proofs.write_settled.Goals as goal
 
-pub build-requires : goal.build-requires
-build-requires c =
-    (accepted_table c.args.n c.args.table.now c.requires, refl, refl)
+pub build-rules-requires : goal.build-rules-requires
+build-rules-requires c =
+    (accepted_table c.args.n c.args.table.now c.requires, c.empty-room.ensures)
 
 pub settle-m-requires : goal.settle-m-requires
-settle-m-requires c = (
-  accepted_atoms c.args.n c.args.table.now c.requires,
-  c.build.ensures.index_of,
-  c.build.ensures.facts_of,
-  accepted_heads c.args.n c.args.table.now c.requires,
-)
-
-pub find_reasons-found-requires : goal.find_reasons-found-requires
-find_reasons-found-requires c = c.build.ensures.index_of
+settle-m-requires c =
+    (accepted_atoms c.args.n c.args.table.now c.requires, rw c.build-rules.ensures (accepted_heads c.args.n c.args.table.now c.requires))
 
 pub overflow_mul-n : goal.overflow_mul-n
 overflow_mul-n c =
@@ -30,5 +23,6 @@ print_sheet-requires c =
 
 pub returns : goal.returns
 returns c =
-    printed_allowed c.args.n c.args.table.now c.args.text.now c.requires _ _ c.settle-m.ensures c.find_reasons-found.ensures.ranked_value
-    c.find_reasons-found.ensures.lines_value c.print_sheet.ensures
+    let words = c.rules.view_is ∙ c.build-rules.ensures in
+    printed_allowed c.args.n c.args.table.now c.args.text.now c.requires _ _ (rw c.build-rules.ensures at c.settle-m.ensures)
+    (rw words at c.find_reasons-found.ensures) c.print_sheet.ensures

@@ -1,8 +1,9 @@
 use mathlib.Core.Path.{refl, sym, ap, ◌∙◌}
+use Prim.Native.Nat.{ℕ}
 use native.Mathlib.Omega.{arith}
 use lib.ListN.{length}
 use lib.Seq.{sets, length-sets}
-use Rattle.reasontext.specs.Reading.{TextRead}
+use Rattle.reasontext.specs.Reading.{TextRead, at_end}
 use Rattle.reasontext.proofs.Texts.{Begun}
 use Rattle.reasontext.proofs.Going.{going_start, going_on, stopped, numbers_stopped, ended}
 use Rattle.reasontext.proofs.read_numbers.Goals as goal
@@ -49,7 +50,7 @@ pub returns : goal.returns
 returns c =
     let w = c.loop-i.invariant in
     let e = ended _ _ _ _ _ w c.loop-i-test.false in record {
-      fault_value = c.end_fault.ensures ∙ sym e.0;
+      fault_value = c.end_fault.ensures ∙ ap (λ (p : ℕ). (at_end c.loop-i.s.field c.loop-i.s.begun p).fault) (omega arith) ∙ sym e.0;
       count_value = w.count_is ∙ ap length e.1;
       room_after = w.room_is ∙ ap (sets _ 0) e.1;
     }

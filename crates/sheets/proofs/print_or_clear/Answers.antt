@@ -8,13 +8,13 @@ print-printed-requires c =
       n_in_bounds = names_inside c.args.sheet.now _ _ c.args.n c.args.w c.args.words.now c.args.names.now c.requires.holding;
     }
 
-pub returns-in-Whole : goal.returns-in-Whole
-returns-in-Whole c =
+pub returns-in-Ok : goal.returns-in-Ok
+returns-in-Ok c =
     prints c.args.sheet.now _ _ c.args.n c.args.w c.args.words.now c.args.names.now c.requires.holding
-    c.args.values.now c.requires.valued c.args.text.now _ _ c.print-printed.ensures.value c.print-printed.ensures.text_is _ c.in-Whole.is
+    c.args.values.now c.requires.valued c.args.text.now _ _ c.print-printed.ensures.value c.print-printed.ensures.text_is _ c.in-Ok.is
 
-pub returns-in-Refused : goal.returns-in-Refused
-returns-in-Refused c =
+pub returns-in-Err : goal.returns-in-Err
+returns-in-Err c =
     prints_nothing c.args.sheet.now _ _ c.args.n c.args.w c.args.words.now c.args.names.now c.requires.holding
     c.args.values.now c.requires.valued c.args.text.now _ _ c.print-printed.ensures.value c.print-printed.ensures.text_is _ _ _
-    c.in-Refused.is c.clear_words.ensures c.clear_names.ensures
+    c.in-Err.is c.clear.ensures.words_cleared c.clear.ensures.names_cleared

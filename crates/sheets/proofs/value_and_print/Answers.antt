@@ -19,10 +19,10 @@ print_or_clear-requires c =
     record {
       holding = c.requires;
       valued = valued c.args.sheet.now _ _ c.args.n c.args.w c.args.words.now
-          c.args.names.now c.requires _ _ _ c.evaluate-answer.ensures c.in-Accepted.is;
+          c.args.names.now c.requires _ _ _ c.evaluate-answer.ensures c.in-Ok.is;
     }
 
-pub returns-in-Refused : goal.returns-in-Refused
-returns-in-Refused c =
+pub returns-in-Err : goal.returns-in-Err
+returns-in-Err c =
     absurd (never_refuses c.args.sheet.now _ _ c.args.n c.args.w c.args.words.now
-    c.args.names.now c.requires _ _ _ _ (omega arith) c.evaluate-answer.ensures c.in-Refused.is)
+    c.args.names.now c.requires _ _ _ _ (omega arith) c.evaluate-answer.ensures c.in-Err.is)

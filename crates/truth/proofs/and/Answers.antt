@@ -1,19 +1,18 @@
-use mathlib.Core.Path.{◌∙◌}
-use Rattle.paper.specs.Table1.{◌and◌}
-use Rattle.truth.proofs.Laws.{first_refused, second_refused, smaller_left, smaller_right}
+use mathlib.Core.Path.{sym, ap, ◌∙◌}
+use Rattle.std.proofs.Common.{rules}
+use Rattle.std.specs.Prelude.{Ok}
+use Rattle.paper.specs.Table1.{code, ◌and◌}
+use Rattle.truth.proofs.Laws.{unread, second_unread, both_read}
 use Rattle.truth.proofs.and.Goals as goal
 
-pub returns-then-v-gt3 : goal.returns-then-v-gt3
-returns-then-v-gt3 c = c.refused.ensures ∙ first_refused ◌and◌ c.args.v c.args.w c.if-v-gt3.true
+pub returns-in_err-a : goal.returns-in_err-a
+returns-in_err-a c = (search rules) ∙ sym (unread c.args.v _ c.try_from.ensures c.in_err-a.was)
 
-pub returns-then-w-gt3 : goal.returns-then-w-gt3
-returns-then-w-gt3 c = c.refused-then-w-gt3.ensures ∙ second_refused ◌and◌ c.args.v c.args.w c.if-w-gt3.true
+pub returns-in_err-b : goal.returns-in_err-b
+returns-in_err-b c =
+    (search rules) ∙ sym (second_unread ◌and◌ c.args.v c.args.w c.try_from.ensures c.in_ok-a.was c.try_from-2.ensures c.in_err-b.was)
 
-pub returns-then-w-v : goal.returns-then-w-v
-returns-then-w-v c =
-    smaller_right c.args.v c.args.w
-    c.if-v-gt3.false c.if-w-gt3.false c.if-w-v.true
-
-pub returns-else-w-v : goal.returns-else-w-v
-returns-else-w-v c =
-    smaller_left c.args.v c.args.w c.if-v-gt3.false c.if-w-gt3.false c.if-w-v.false
+pub returns : goal.returns
+returns c =
+    ap Ok (c.code.ensures ∙ ap code c.and.ensures)
+    ∙ sym (both_read ◌and◌ c.args.v c.args.w c.try_from.ensures c.in_ok-a.was c.try_from-2.ensures c.in_ok-b.was)

@@ -1,14 +1,18 @@
-use mathlib.Core.Path.{◌∙◌}
-use Rattle.paper.specs.Table1.{◌implies◌}
-use Rattle.truth.proofs.Laws.{first_refused, second_refused, looked_up}
+use mathlib.Core.Path.{sym, ap, ◌∙◌}
+use Rattle.std.proofs.Common.{rules}
+use Rattle.std.specs.Prelude.{Ok}
+use Rattle.paper.specs.Table1.{code, ◌implies◌}
+use Rattle.truth.proofs.Laws.{unread, second_unread, both_read}
 use Rattle.truth.proofs.implication.Goals as goal
 
-pub returns-then-v-gt3 : goal.returns-then-v-gt3
-returns-then-v-gt3 c = c.refused.ensures ∙ first_refused ◌implies◌ c.args.v c.args.w c.if-v-gt3.true
+pub returns-in_err-body : goal.returns-in_err-body
+returns-in_err-body c = (search rules) ∙ sym (unread c.args.v _ c.try_from.ensures c.in_err-body.was)
 
-pub returns-then-w-gt3 : goal.returns-then-w-gt3
-returns-then-w-gt3 c =
-    c.refused-then-w-gt3.ensures ∙ second_refused ◌implies◌ c.args.v c.args.w c.if-w-gt3.true
+pub returns-in_err-head : goal.returns-in_err-head
+returns-in_err-head c =
+    (search rules) ∙ sym (second_unread ◌implies◌ c.args.v c.args.w c.try_from.ensures c.in_ok-body.was c.try_from-2.ensures c.in_err-head.was)
 
 pub returns : goal.returns
-returns c = looked_up c.args.v c.args.w c.if-v-gt3.false c.if-w-gt3.false
+returns c =
+    ap Ok (c.code.ensures ∙ ap code c.implies.ensures)
+    ∙ sym (both_read ◌implies◌ c.args.v c.args.w c.try_from.ensures c.in_ok-body.was c.try_from-2.ensures c.in_ok-head.was)

@@ -1,18 +1,18 @@
-use mathlib.Core.Path.{◌∙◌}
-use Rattle.paper.specs.Table1.{◌or◌}
-use Rattle.truth.proofs.Laws.{first_refused, second_refused, larger_right, larger_left}
+use mathlib.Core.Path.{sym, ap, ◌∙◌}
+use Rattle.std.proofs.Common.{rules}
+use Rattle.std.specs.Prelude.{Ok}
+use Rattle.paper.specs.Table1.{code, ◌or◌}
+use Rattle.truth.proofs.Laws.{unread, second_unread, both_read}
 use Rattle.truth.proofs.or.Goals as goal
 
-pub returns-then-v-gt3 : goal.returns-then-v-gt3
-returns-then-v-gt3 c = c.refused.ensures ∙ first_refused ◌or◌ c.args.v c.args.w c.if-v-gt3.true
+pub returns-in_err-a : goal.returns-in_err-a
+returns-in_err-a c = (search rules) ∙ sym (unread c.args.v _ c.try_from.ensures c.in_err-a.was)
 
-pub returns-then-w-gt3 : goal.returns-then-w-gt3
-returns-then-w-gt3 c = c.refused-then-w-gt3.ensures ∙ second_refused ◌or◌ c.args.v c.args.w c.if-w-gt3.true
+pub returns-in_err-b : goal.returns-in_err-b
+returns-in_err-b c =
+    (search rules) ∙ sym (second_unread ◌or◌ c.args.v c.args.w c.try_from.ensures c.in_ok-a.was c.try_from-2.ensures c.in_err-b.was)
 
-pub returns-then-v-w : goal.returns-then-v-w
-returns-then-v-w c =
-    larger_right c.args.v c.args.w c.if-v-gt3.false c.if-w-gt3.false c.if-v-w.true
-
-pub returns-else-v-w : goal.returns-else-v-w
-returns-else-v-w c =
-    larger_left c.args.v c.args.w c.if-v-gt3.false c.if-w-gt3.false c.if-v-w.false
+pub returns : goal.returns
+returns c =
+    ap Ok (c.code.ensures ∙ ap code c.or.ensures)
+    ∙ sym (both_read ◌or◌ c.args.v c.args.w c.try_from.ensures c.in_ok-a.was c.try_from-2.ensures c.in_ok-b.was)

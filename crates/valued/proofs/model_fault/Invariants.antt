@@ -6,7 +6,7 @@ use Rattle.valued.proofs.model_fault.Given as goal
 
 abbrev pub invariant-loop-at : goal.invariant-loop-at
 invariant-loop-at l =
-    Satisfying (given l.n l.values) l.table l.at
+    Satisfying (given l.values.n l.values.codes.now) l.table l.at
 
 abbrev pub decreases-loop-at : goal.decreases-loop-at
 decreases-loop-at l =

@@ -1,4 +1,4 @@
-use Prim.Native.Nat.{◌≤◌, ◌-◌}
+use Prim.Native.Nat.{◌≤◌}
 use mathlib.Core.Path.{◌≡◌}
 use lib.ListN.{length}
 use Rattle.bits.specs.Sets.{member}
@@ -10,7 +10,3 @@ abbrev pub invariant-loop-a : goal.invariant-loop-a
 invariant-loop-a l =
     (l.a ≤ l.n) × (length l.values ≡ length l.initial.values)
     × (l.values ≡ written (settled_value (member l.marks) (member l.held)) l.a l.initial.values)
-
-abbrev pub decreases-loop-a : goal.decreases-loop-a
-decreases-loop-a l =
-    l.n - l.a

@@ -12,7 +12,7 @@ loop-a-preserved c = (
   omega arith,
   omega (arith, c.line_bytes-total.ensures.upper_bound),
   bytes_turn c.args.names.now c.args.n c.loop-a.a c.requires.n_in_bounds c.loop-a-test.true _
-      c.entry-e.ensures.value c.loop-a.total _ _ c.line_bytes-total.ensures.value c.loop-a.invariant.2,
+      c.entry.ensures.value c.loop-a.total _ _ c.line_bytes-total.ensures.value c.loop-a.invariant.2,
 )
 
 pub returns : goal.returns

@@ -10,7 +10,7 @@ returns-then-text-needed c =
     let names = take c.args.n c.args.names.now in
     let values : ℕ → ℕ = λ x. get_or c.args.values.now x 0 in
     let out = value_sheet c.args.sheet.now values names in let whole = does_not_fit out _ _
-    (c.bytes_needed-needed.ensures ∙ sym (lines_length c.args.sheet.now values 0 names)) c.if-text-needed.true in rw c.at.ensures (record {
+    (c.bytes_needed-needed.ensures ∙ sym (lines_length c.args.sheet.now values 0 names)) c.if-text-needed.true in rw c.refused.ensures (record {
       value = whole.0;
       text_is = whole.1;
     })

@@ -32,7 +32,7 @@ loop-a-preserved c = (
       c.loop-a-test.true _ c.entry-e.ensures.value c.loop-a.at _ _ c.line_bytes-at.ensures.value c.loop-a.invariant.3,
   lines_turn c.args.names.now c.args.n c.loop-a.a c.requires.n_in_bounds c.loop-a-test.true _
       c.entry-e.ensures.value c.args.sheet.now (λ x. get_or c.args.values.now x 0) c.loop-a.text _
-      c.loop-a.at _ _ c.byte-v.ensures c.line_bytes-at.ensures.value c.put_line.ensures ∙ c.loop-a.invariant.4,
+      c.loop-a.at _ _ c.byte.ensures c.line_bytes-at.ensures.value c.put_line.ensures ∙ c.loop-a.invariant.4,
 )
 
 pub shape_of-text : goal.shape_of-text

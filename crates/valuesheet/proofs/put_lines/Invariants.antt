@@ -1,5 +1,5 @@
 use mathlib.Core.Path.{◌≡◌}
-use Prim.Native.Nat.{◌+◌, ◌-◌, ◌*◌, ◌≤◌}
+use Prim.Native.Nat.{◌+◌, ◌*◌, ◌≤◌}
 use lib.ListN.{length, get_or, take, drop}
 use lib.Seq.{sets}
 use Rattle.valuesheet.specs.ValueSheet.{lines_from}
@@ -12,7 +12,3 @@ invariant-loop-a l =
     × (l.at + bytes_for (drop l.a (take l.n l.names)) ≡ bytes_for (take l.n l.names))
     × (sets l.text l.at (lines_from l.sheet (λ x. get_or l.values x 0) l.a (drop l.a (take l.n l.names)))
     ≡ sets l.initial.text 0 (lines_from l.sheet (λ x. get_or l.values x 0) 0 (take l.n l.names)))
-
-abbrev pub decreases-loop-a : goal.decreases-loop-a
-decreases-loop-a l =
-    l.n - l.a

@@ -13,7 +13,7 @@ loop-i-preserved c = (
   omega arith,
   length-set c.loop-i.text _ _ ∙ c.loop-i.invariant.1,
   name_turn c.args.sheet.now c.args.start
-      c.args.len c.loop-i.text c.args.at c.loop-i.i _ c.loop-i-test.true c.byte-b.ensures ∙ c.loop-i.invariant.2,
+      c.args.len c.loop-i.text c.args.at c.loop-i.i _ c.loop-i-test.true c.byte.ensures ∙ c.loop-i.invariant.2,
 )
 
 pub returns : goal.returns

@@ -1,5 +1,5 @@
 use mathlib.Core.Path.{◌≡◌}
-use Prim.Native.Nat.{◌-◌, ◌≤◌}
+use Prim.Native.Nat.{◌≤◌}
 use lib.ListN.{length}
 use lib.Seq.{sets}
 use Rattle.names.specs.Names.{bytes_at}
@@ -10,7 +10,3 @@ abbrev pub invariant-loop-i : goal.invariant-loop-i
 invariant-loop-i l =
     (l.i ≤ l.len) × (length l.text ≡ length l.initial.text)
     × (name_left l.sheet l.start l.len l.text l.at l.i ≡ sets l.initial.text l.at (bytes_at l.sheet l.start l.len))
-
-abbrev pub decreases-loop-i : goal.decreases-loop-i
-decreases-loop-i l =
-    l.len - l.i

@@ -16,4 +16,4 @@ shape_of-text c =
 
 pub returns : goal.returns
 returns c =
-    rw c.letter-l.ensures
+    rw c.letter.ensures

@@ -1,53 +1,47 @@
+use mathlib.Core.Path.{refl}
+use Prim.Native.Nat.{◌<◌}
 use native.Mathlib.Omega.{arith}
-use mathlib.Core.Path.{subst⁻¹}
+use lib.ListN.{length}
 use Rattle.bits.specs.Sets.{member}
-use Rattle.words.specs.Layout.{groups_at}
-use Rattle.ranks.specs.Found.{found, RecordStands}
+use Rattle.ranks.specs.KnownClean.{marked_in, clean_in}
+use Rattle.words.specs.Layout.{rules_of}
+use Rattle.words.specs.RecordAt.{rule_at}
 use Rattle.ranks.proofs.Adding.{chosen_can}
-use Rattle.waiting.proofs.Numbering.{at_most_1024_rules}
+use Rattle.waiting.specs.Waiting.{place_for}
+use Rattle.waiting.proofs.Numbering.{in_drop, at_most_1024_rules}
 use Rattle.waiting.proofs.Awake.{looked_at_adds, stays_awake}
 use Rattle.waiting.proofs.look.Goals as goal
 
-pub overflow_add-j : goal.overflow_add-j
-overflow_add-j c =
+pub offset_bounds-sources-j : goal.offset_bounds-sources-j
+offset_bounds-sources-j c =
     omega (arith, c.requires.1, at_most_1024_rules _ c.requires.0.ranking.index.table)
 
-pub word_inside-at-requires : goal.word_inside-at-requires
-word_inside-at-requires c =
-    omega (arith, c.requires.1, at_most_1024_rules _ c.requires.0.ranking.index.table, c.requires.0.ranking.numbered.room)
+pub bounds-sources-j : goal.bounds-sources-j
+bounds-sources-j c =
+    omega (arith, c.requires.1, at_most_1024_rules _ c.requires.0.ranking.index.table)
 
-pub word_inside-head-requires : goal.word_inside-head-requires
-word_inside-head-requires c =
+pub invariant_of-record : goal.invariant_of-record
+invariant_of-record c =
     let stands = (c.requires.0.ranking.numbered.each c.args.j c.requires.1).stands in
-    omega (arith, stands.inside, c.word_inside-at.ensures.value)
-
-pub choose-choice-requires : goal.choose-choice-requires
-choose-choice-requires c =
-    let args = c.args in (
-      subst⁻¹ (RecordStands args.table.now) c.word_inside-at.ensures.value (c.requires.0.ranking.numbered.each args.j c.requires.1).stands,
-      c.word_inside-head.ensures.value,
-    )
+    record { inside = stands.inside; whole = stands.whole }
 
 pub add_and_wake-requires : goal.add_and_wake-requires
 add_and_wake-requires c =
-    let args = c.args in
+    let sources = c.args.sources.now in
+    let heads = sources.heads in
+    let t = sources.table.words.now in
+    let at = place_for sources.order.now c.args.j in
     let ranking = c.requires.0.ranking in
-    let place = c.word_inside-at.ensures.value in
-    let stands = subst⁻¹ (RecordStands args.table.now) place (ranking.numbered.each args.j c.requires.1).stands in
-    let few = (c.shared_slice_known-1.given (groups_at c.word_inside-at.result)).fits in (
-      ranking.index,
-      ranking.numbered,
-      ranking.counted,
+    let r = ranking.numbered.each c.args.j c.requires.1 in
+    let body = ranking.index.table.within.each_body (rule_at t at) (in_drop c.args.j (rules_of t) r.rule) in
+    let few : length (rule_at t at).groups < 65536 = omega (arith, body.at_most_64) in (
+      ranking,
       c.requires.0.row,
-      chosen_can args.marked args.clean.now (member args.marks.now) args.table.now c.word_inside-at.result
-          (found args.ranked.now args.lines.now args.rank) stands ranking.fit few
-          c.word_inside-head.ensures.value c.choose-choice.ensures,
+      chosen_can (marked_in heads.clean) (clean_in heads.clean) (member heads.marks.now) t at c.args.search.now.found r.stands ranking.fit few
+          c.head.ensures.value c.choose-adds.ensures,
     )
 
-pub returns : goal.returns
-returns c =
-    let e = looked_at_adds c.requires.0 c.args.j c.word_inside-at.ensures.value
-    c.word_inside-head.ensures.value c.choose-choice.ensures c.add_and_wake.ensures.result_after in record {
-      result_after = e;
-      awake = stays_awake c.requires.0 c.requires.1 e c.add_and_wake.ensures.stirred;
-    }
+pub returns-clause-awake : goal.returns-clause-awake
+returns-clause-awake c =
+    let e = looked_at_adds c.requires.0 c.args.j refl c.head.ensures.value c.choose-adds.ensures c.add_and_wake.ensures.found_after in
+    stays_awake c.requires.0 c.requires.1 e c.add_and_wake.ensures.stirred

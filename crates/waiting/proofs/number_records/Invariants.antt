@@ -5,7 +5,7 @@ use Rattle.waiting.proofs.number_records.Given as goal
 
 abbrev pub invariant-loop-at : goal.invariant-loop-at
 invariant-loop-at l =
-    NumberedTo l.table l.order l.at l.n
+    NumberedTo l.table l.order l.at
 
 abbrev pub decreases-loop-at : goal.decreases-loop-at
 decreases-loop-at l =

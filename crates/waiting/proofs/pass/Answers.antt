@@ -1,43 +1,36 @@
-use mathlib.Core.Path.{refl, sym, ◌∙◌}
+use mathlib.Core.Path.{sym, ◌∙◌}
 use native.Mathlib.Omega.{arith}
-use Rattle.waiting.proofs.Awake.{pass_ends}
+use Rattle.waiting.proofs.Waking.{found_below}
+use Rattle.waiting.proofs.Awake.{none_left, next_below, next_further, next_looked_at, taken_out, pass_ends}
 use Rattle.waiting.proofs.pass.Goals as goal
 
-pub loop-i-init : goal.loop-i-init
-loop-i-init c =
-    record { awake = c.requires; same = refl }
+pub look-requires : goal.look-requires
+look-requires c =
+    let awake = c.loop-i.invariant.awake in
+    (awake, next_below awake c.loop-i-test.true (sym c.in-Some.is ∙ c.lowest_from.ensures))
 
-pub look_next-t-requires : goal.look_next-t-requires
-look_next-t-requires c =
-    (c.loop-i.invariant.awake, c.loop-i-test.true)
+pub overflow_add-i : goal.overflow_add-i
+overflow_add-i c =
+    omega (arith, found_below _ c.loop-i-test.true (sym c.in-Some.is ∙ c.lowest_from.ensures))
 
 pub loop-i-smaller : goal.loop-i-smaller
 loop-i-smaller c =
-    omega (arith, c.look_next-t.ensures.i_lt_next, c.loop-i-test.true)
+    omega (arith, next_further c.loop-i.invariant.awake c.loop-i-test.true (sym c.in-Some.is ∙ c.lowest_from.ensures), c.loop-i-test.true)
 
 pub loop-i-preserved : goal.loop-i-preserved
 loop-i-preserved c =
-    record { awake = c.look_next-t.ensures.awake; same = c.look_next-t.ensures.rank_after ∙ c.loop-i.invariant.same }
-
-pub shape_of-ranked : goal.shape_of-ranked
-shape_of-ranked c =
-    c.loop-i.invariant.awake.ranking.fit.row ∙ sym c.requires.ranking.fit.row
-
-pub shape_of-lines : goal.shape_of-lines
-shape_of-lines c =
-    c.loop-i.invariant.awake.ranking.fit.room ∙ sym c.requires.ranking.fit.room
-
-pub shape_of-counts : goal.shape_of-counts
-shape_of-counts c =
-    c.loop-i.invariant.awake.ranking.counted.room ∙ sym c.requires.ranking.counted.room
-
-pub shape_of-waiting : goal.shape_of-waiting
-shape_of-waiting c =
-    c.loop-i.invariant.awake.row ∙ sym c.requires.row
-
-pub returns : goal.returns
-returns c =
-    record {
-      result_after = pass_ends c.loop-i-test.false c.loop-i.invariant;
-      awake = c.loop-i.invariant.awake;
+    let awake = c.loop-i.invariant.awake in
+    let found = sym c.in-Some.is ∙ c.lowest_from.ensures in record {
+      awake = taken_out awake (next_below awake c.loop-i-test.true found) c.look.ensures.found_after c.look.ensures.awake c.remove.ensures;
+      same = next_looked_at awake c.loop-i-test.true found c.look.ensures.found_after ∙ c.loop-i.invariant.same;
     }
+
+pub returns-in-None-clause-found_after : goal.returns-in-None-clause-found_after
+returns-in-None-clause-found_after c =
+    let awake = c.loop-i.invariant.awake in
+    let left = none_left awake c.loop-i-test.true (sym c.in-None.is ∙ c.lowest_from.ensures) in
+    pass_ends {i = 1024} (omega arith) (record { awake = awake; same = left ∙ c.loop-i.invariant.same })
+
+pub returns-clause-found_after : goal.returns-clause-found_after
+returns-clause-found_after c =
+    pass_ends c.loop-i-test.false c.loop-i.invariant

@@ -1,5 +1,5 @@
 use mathlib.Core.Path.{◌≡◌}
-use Prim.Native.Nat.{◌≤◌, ◌-◌}
+use Prim.Native.Nat.{◌≤◌}
 use lib.ListN.{length, drop}
 use Rattle.bits.specs.Sets.{member}
 use Rattle.words.specs.declared.Due.TheVariants.{Head}
@@ -9,6 +9,3 @@ use Rattle.words.proofs.walk_words.Given as goal
 abbrev pub invariant-loop-i : goal.invariant-loop-i
 invariant-loop-i l =
     (l.i ≤ length l.table) × (length l.seen ≡ 16) × (walk l.n (member l.seen) l.due l.i (drop l.i l.table) ≡ walk l.n no_heads Head 0 l.table)
-
-abbrev pub decreases-loop-i : goal.decreases-loop-i
-decreases-loop-i l = length l.table - l.i
