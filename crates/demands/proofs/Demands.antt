@@ -10,7 +10,7 @@ use lib.Dec.{T, leb}
 use lib.ListN.{length, get_or, take, drop}
 use Rattle.limits.specs.Limits.{most_atoms, most_line, most_reason_bytes}
 use Rattle.refusal.specs.declared.Refusal.{Refusal}
-use Rattle.refusal.specs.Numbers.{too_many_atoms, broken_record, not_settled, text_room_too_small, not_a_truth_code, number_of}
+use Rattle.refusal.specs.Numbers.{too_many_atoms, broken_record, not_settled, text_room_too_small, not_a_truth_code}
 use Rattle.paper.specs.Table1.{Value, 𝐢, 𝐭, code, ◌and◌, ◌or◌, not', ◌implies◌}
 use Rattle.paper.specs.Rules.{Rule, positive}
 use Rattle.sets.specs.Sets.{◌∈◌, ◌⊆◌, count}
@@ -266,7 +266,7 @@ host_evaluation_refused N bytes room e o = host_determined N bytes room o (HostE
 pub host_evaluation_tells : (N : ℕ) (bytes room : List ℕ) {answer : ℕ} {room' : List ℕ} → HostEvaluation N bytes room answer room'
     → ((host_fault N (words_in bytes) (lone_byte bytes) (length room) ≡ Ok tt) × (answer ≡ 0))
     ⊎ ((f : Refusal) × (host_fault N (words_in bytes) (lone_byte bytes) (length room) ≡ Err f)
-    × (answer ≡ packed f) × (1 ≤ number_of f.reason) × (f.place < 4294967296))
+    × (answer ≡ packed f) × (1 ≤ f.number) × (f.place < 4294967296))
 host_evaluation_tells = host_answer_tells
 
 pub host_evaluation_zero : (N : ℕ) (bytes room : List ℕ) {answer : ℕ} {room' : List ℕ} → HostEvaluation N bytes room answer room'
@@ -286,7 +286,7 @@ pub host_conflict_tells : (N : ℕ) (bytes : List ℕ) {answer : ℕ} → HostCo
     → ((host_table_fault N (words_in bytes) (lone_byte bytes) ≡ Ok tt) × (Conflict (rules_of (words_in bytes)) → ⊥) × (answer ≡ 0))
     ⊎ (((host_table_fault N (words_in bytes) (lone_byte bytes) ≡ Ok tt) × Conflict (rules_of (words_in bytes)) × (answer ≡ 1))
     ⊎ ((f : Refusal) × (host_table_fault N (words_in bytes) (lone_byte bytes) ≡ Err f)
-    × (answer ≡ packed f) × (1 ≤ number_of f.reason) × (f.place < 4294967296)))
+    × (answer ≡ packed f) × (1 ≤ f.number) × (f.place < 4294967296)))
 host_conflict_tells = host.conflict_answer_tells
 
 -- the sheet reader: only 8, 10 and 11, at every place; the same again after the end or a refusal; and it ends
@@ -336,7 +336,7 @@ pub host_sheet_tells : (s words names text : List ℕ) {answer : ℕ} {ws ns tex
     ⊎ ((x : Sofar) × (I : Interpretation) × (sheet_outcome s (length words / 2) (length names / 4) ≡ sheet.accepted x)
     × SmallestWellSupported (rules_in x.records) I
     × (length text < length (sheet_of s x I)) × (f ≡ text_room_too_small (length (sheet_of s x I)))))
-    × (answer ≡ packed f) × (1 ≤ number_of f.reason) × (f.place < 4294967296))
+    × (answer ≡ packed f) × (1 ≤ f.number) × (f.place < 4294967296))
 host_sheet_tells = answer_tells
 
 -- ---- Demand 2. For an accepted table every atom's value is its value in the smallest well-supported model, by Definitions 5, 6, 8, 9 as printed.

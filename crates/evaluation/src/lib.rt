@@ -102,7 +102,7 @@ pub fn evaluation_fault(n: u64, table: &[u16], room: u64) -> Result<(), Refusal>
     ensures { result ≡ evaluation_fault n table.now room }
 {
     if limits::MOST_N < n {
-        return refusal::refused(Reason::TooManyAtoms, 0);
+        return Reason::TooManyAtoms.refused(0);
     }
     words::table_too_long(table)?;
     values::room_too_small(n, room)?;

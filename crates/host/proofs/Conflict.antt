@@ -9,7 +9,7 @@ use lib.Dec.{leb}
 use lib.ListN.{length}
 use borrow.Author.Tests.{eq-eqb, ne_eqb, lt-leb}
 use Rattle.refusal.specs.declared.Refusal.{Refusal}
-use Rattle.refusal.specs.Numbers.{table_too_long, too_many_atoms, number_of}
+use Rattle.refusal.specs.Numbers.{table_too_long, too_many_atoms}
 use Rattle.refusal.specs.Checks.{Checked, Decided}
 use Rattle.refusal.specs.Questions.{refused, answers_yes, answers_no}
 use Rattle.refusal.proofs.Laws.{or_else_nothing, refused≢accepted}
@@ -75,7 +75,7 @@ module _ (N : ℕ) (bytes : List ℕ) where
       → ((host_table_fault N (words_in bytes) (lone_byte bytes) ≡ Ok tt) × (Conflict (rules_of (words_in bytes)) → ⊥) × (answer ≡ 0))
       ⊎ (((host_table_fault N (words_in bytes) (lone_byte bytes) ≡ Ok tt) × Conflict (rules_of (words_in bytes)) × (answer ≡ 1))
       ⊎ ((f : Refusal) × (host_table_fault N (words_in bytes) (lone_byte bytes) ≡ Err f)
-      × (answer ≡ packed f) × (1 ≤ number_of f.reason) × (f.place < 4294967296)))
+      × (answer ≡ packed f) × (1 ≤ f.number) × (f.place < 4294967296)))
   conflict_answer_tells (HostConflict.answered (answers_no e n)) = inl (e, n, refl)
   conflict_answer_tells (HostConflict.answered (answers_yes e c)) = inr (inl (e, c, refl))
   conflict_answer_tells (HostConflict.answered (refused {f} e)) =

@@ -7,7 +7,7 @@ use Prim.Native.Nat.{ℕ, ◌≤◌, ◌<◌}
 use native.Mathlib.Omega.{arith}
 use lib.ListN.{length}
 use Rattle.refusal.specs.declared.Refusal.{Refusal}
-use Rattle.refusal.specs.Numbers.{cut_short, number_of}
+use Rattle.refusal.specs.Numbers.{cut_short}
 use Rattle.refusal.specs.Checks.{asking}
 use Rattle.words.specs.Check.{AcceptedTable}
 use Rattle.words.specs.Layout.{rules_of}
@@ -50,7 +50,7 @@ host_within N t lone room =
 pub host_answer_tells : (N : ℕ) (bytes room : List ℕ) {a : ℕ} {room' : List ℕ} → HostEvaluation N bytes room a room'
     → ((host_fault N (words_in bytes) (lone_byte bytes) (length room) ≡ Ok tt) × (a ≡ 0))
     ⊎ ((f : Refusal) × (host_fault N (words_in bytes) (lone_byte bytes) (length room) ≡ Err f)
-    × (a ≡ packed f) × (1 ≤ number_of f.reason) × (f.place < 4294967296))
+    × (a ≡ packed f) × (1 ≤ f.number) × (f.place < 4294967296))
 host_answer_tells N bytes room (HostEvaluation.refused {f} e) =
     let k : PlacesTo 8192 (Err f) = subst (PlacesTo 8192) e (host_within N (words_in bytes) (lone_byte bytes) (length room)) in
     inr (f, e, refl, k.2, omega (arith, k.1))

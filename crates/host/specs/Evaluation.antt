@@ -8,7 +8,6 @@ use Rattle.paper.specs.Definitions.{Interpretation, value, Smallest}
 use Rattle.values.specs.Values.{written}
 use Rattle.evaluation.specs.Evaluation.{evaluation_fault}
 use Rattle.host.specs.Bytes.{words_in, lone_byte, then_lone_byte}
-use Rattle.refusal.specs.Numbers.{number_of}
 
 -- 1, 2, 3, the whole words, then a lone last byte
 unfoldable pub host_fault : ℕ → List ℕ → Bool → ℕ → Checked
@@ -16,7 +15,7 @@ host_fault N t lone room = then_lone_byte (evaluation_fault N t room) (length t)
 
 -- 2^32 times the number, plus the place
 abbrev pub packed : Refusal → ℕ
-packed f = 4294967296 * number_of f.reason + f.place
+packed f = 4294967296 * f.number + f.place
 
 -- the answer is 0, or the refusal packed; the room has the values, or is untouched
 pub data HostEvaluation (N : ℕ) (bytes room : List ℕ) : ℕ → List ℕ → Type 0 where

@@ -2,7 +2,7 @@
 use Rattle.std.specs.Prelude.{cond, List, ◌≡◌, ℕ, ◌+◌, ◌*◌, ◌<◌, leb, length, get_or, Ok, Err}
 use Rattle.limits.specs.Limits.{most_atoms}
 use Rattle.refusal.specs.declared.Refusal.{Refusal}
-use Rattle.refusal.specs.Numbers.{table_too_long, too_many_atoms, number_of}
+use Rattle.refusal.specs.Numbers.{table_too_long, too_many_atoms}
 use Rattle.refusal.specs.Checks.{Checked, Decided}
 use Rattle.words.specs.Layout.{rules_of}
 use Rattle.paper.specs.Rules.{positive}
@@ -13,7 +13,7 @@ use Rattle.host.specs.Evaluation.{packed}
 
 -- number and place have room in the answer
 pub record Packable (f : Refusal) : Type 0 where
-  pub number_small : number_of f.reason < 4294967296
+  pub number_small : f.number < 4294967296
   pub place_small : f.place < 4294967296
 
 -- so have those of a check, and of an answer to a question

@@ -32,7 +32,7 @@ pub fn pack(r: Refusal) -> u64
     requires { Packable r }
     ensures { result ≡ packed r }
 {
-    4294967296 * r.reason.number() + r.place
+    4294967296 * r.number + r.place
 }
 
 // What a lone byte after so many words is answered: their own fault comes first.
@@ -43,7 +43,7 @@ pub fn cut_short(fault: Result<(), Refusal>, words: usize) -> Refusal
     if let Err(r) = fault {
         return r;
     }
-    refusal::at(Reason::CutShort, words)
+    Reason::CutShort.at(words)
 }
 
 // Whole words, and no byte after them.
@@ -61,9 +61,9 @@ pub fn too_long(n: u64) -> u64
     ensures { result ≡ too_long_answer n }
 {
     if limits::MOST_N < n {
-        return pack(refusal::at(Reason::TooManyAtoms, 0));
+        return pack(Reason::TooManyAtoms.at(0));
     }
-    pack(refusal::at(Reason::TableTooLong, 0))
+    pack(Reason::TableTooLong.at(0))
 }
 
 // Evaluation over bytes: the answer is 0, or the refusal packed.

@@ -10,7 +10,7 @@ use lib.ListN.{length, take}
 use borrow.Author.Tests.{eq-eqb, ne_eqb, le-leb}
 use Rattle.refusal.specs.declared.Refusal.{Refusal}
 use Rattle.refusal.specs.Checks.{Checked, or_else}
-use Rattle.refusal.specs.Numbers.{not_a_truth_code, number_of}
+use Rattle.refusal.specs.Numbers.{not_a_truth_code}
 use Rattle.refusal.proofs.Laws.{or_else_nothing, demanding_holds}
 use Rattle.refusal.proofs.Places.{PlacesTo}
 use Rattle.paper.specs.Definitions.{Interpretation}
@@ -33,7 +33,7 @@ use Rattle.std.specs.Prelude.{Ok, Err}
 -- a refusal's number is one of the documents'
 abbrev pub KnownNumber : Checked → Type 0
 KnownNumber (Ok tt) = Unit {0}
-KnownNumber (Err f) = (1 ≤ number_of f.reason) × (number_of f.reason ≤ 34)
+KnownNumber (Err f) = (1 ≤ f.number) × (f.number ≤ 34)
 
 places_known : (b : ℕ) (x : Checked) → PlacesTo b x → KnownNumber x
 places_known b (Ok tt) h = tt

@@ -18,7 +18,6 @@ use Rattle.reasoncheck.proofs.Determined.{check_determined}
 use Rattle.hostreasons.specs.CheckBytes.{readable_place, packed_check, HostCheck}
 use Rattle.hostreasons.proofs.Checking.{KnownNumber, check_known}
 use Rattle.std.specs.Prelude.{Ok, Err}
-use Rattle.refusal.specs.Numbers.{number_of}
 
 readable_small : (p : ℕ) → readable_place p < 4294967296
 readable_small p = go (leb p 4294967295) refl
@@ -29,19 +28,19 @@ readable_small p = go (leb p 4294967295) refl
 
 -- number and place of a refusal, read from an answer
 pub record ReadsAs (a : ℕ) (f : Refusal) : Type 0 where
-  pub known : 1 ≤ number_of f.reason
-  pub number_is : a / 4294967296 ≡ number_of f.reason
+  pub known : 1 ≤ f.number
+  pub number_is : a / 4294967296 ≡ f.number
   pub place_is : a % 4294967296 ≡ readable_place f.place
 
-reads : (f : Refusal) → 1 ≤ number_of f.reason → ReadsAs (packed_check (Err f)) f
+reads : (f : Refusal) → 1 ≤ f.number → ReadsAs (packed_check (Err f)) f
 reads f h = let k = readable_small f.place in record { known = h; number_is = omega arith; place_is = omega arith }
 
 -- a fault of the table or its room has a small place
 small_place : (N : ℕ) (bs values : List ℕ) (f : Refusal) → host_fault N (words_in bs) (lone_byte bs) (length values) ≡ Err f
-    → (1 ≤ number_of f.reason) × (f.place < 4294967296)
+    → (1 ≤ f.number) × (f.place < 4294967296)
 small_place N bs values f e =
     ⊎_elim (λ q. absurd (refused≢accepted f (sym e ∙ q.0)))
-    (λ q. let same : q.0 ≡ f = cc in subst (λ (x : Refusal). (1 ≤ number_of x.reason) × (x.place < 4294967296)) same (q.3, q.4))
+    (λ q. let same : q.0 ≡ f = cc in subst (λ (x : Refusal). (1 ≤ x.number) × (x.place < 4294967296)) same (q.3, q.4))
     (host_answer_tells N bs values (HostEvaluation.refused e))
 
 module _ (N : ℕ) (bs values text : List ℕ) where
@@ -60,7 +59,7 @@ module _ (N : ℕ) (bs values text : List ℕ) where
   check_answer_tells (HostCheck.refused {f} e) =
       let q = small_place N bs values f e in
       let same : readable_place f.place ≡ f.place = rw (le-leb f.place 4294967295 (omega (arith, q.1))) refl in
-      inr (f, subst (λ (p : ℕ). ReadsAs (4294967296 * number_of f.reason + p) f) same (reads f q.0), inl e)
+      inr (f, subst (λ (p : ℕ). ReadsAs (4294967296 * f.number + p) f) same (reads f q.0), inl e)
   check_answer_tells (HostCheck.answered e {answer = (Ok tt)} c) = inl (e, c, refl)
   check_answer_tells (HostCheck.answered e {answer = Err f} c) =
       let k : KnownNumber (Err f) = check_known N (words_in bs) values text c in inr (f, reads f k.0, inr (e, c))

@@ -14,7 +14,7 @@ readable_place place = cond (leb place 4294967295) place 4294967295
 -- 0 is accepted, and a refusal is packed
 abbrev pub packed_check : Checked → ℕ
 packed_check (Ok tt) = 0
-packed_check (Err f) = packed (refusal f.reason (readable_place f.place))
+packed_check (Err f) = packed (refusal f.number (readable_place f.place))
 
 -- 1, 2, 3, the whole words, a lone last byte; then what the checker finds: 20, 21, 34, 22, else accepted
 pub data HostCheck (N : ℕ) (bytes values text : List ℕ) : ℕ → Type 0 where

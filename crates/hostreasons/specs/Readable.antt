@@ -3,10 +3,9 @@ use Rattle.std.specs.Prelude.{◌≡◌, ◌<◌, Err, Result, ℕ}
 use Rattle.refusal.specs.declared.Refusal.{Refusal}
 use Rattle.refusal.specs.Checks.{Checked}
 use Rattle.host.specs.WholeWords.{Packable}
-use Rattle.refusal.specs.Numbers.{number_of}
 
 abbrev pub NumberSmall : Checked → Type 0
-NumberSmall c = (f : Refusal) → c ≡ Err f → number_of f.reason < 4294967296
+NumberSmall c = (f : Refusal) → c ≡ Err f → f.number < 4294967296
 
 abbrev pub NumberedPackable : Result ℕ Refusal → Type 0
 NumberedPackable d = (f : Refusal) → d ≡ Err f → Packable f

@@ -1,7 +1,6 @@
 #![tactic(auto)]
 
 ghost use Rattle.std.specs.Prelude.{◌≡◌, ◌<◌};
-ghost use Rattle.refusal.specs.Numbers.{number_of};
 ghost use Rattle.hostreasons.specs.CheckBytes.{readable_place, packed_check, HostCheck};
 ghost use Rattle.hostreasons.specs.ReasonBytes.{packed_number, HostReasons};
 ghost use Rattle.hostreasons.specs.Readable.{NumberSmall, NumberedPackable};
@@ -19,11 +18,11 @@ fn readable_place(place: u64) -> u64
 }
 
 fn pack_readable(r: Refusal) -> u64
-    requires { number_of r.reason < 4294967296 }
+    requires { r.number < 4294967296 }
     ensures { result ≡ packed_check (Err r) }
 {
     host::pack(Refusal {
-        reason: r.reason,
+        number: r.number,
         place: readable_place(r.place),
     })
 }

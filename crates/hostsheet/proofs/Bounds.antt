@@ -11,7 +11,7 @@ use borrow.Author.Tests.{leb-true}
 use Rattle.words.specs.Layout.{rules_in}
 use Rattle.refusal.proofs.Laws.{demanding_holds}
 use Rattle.refusal.specs.declared.Refusal.{Refusal}
-use Rattle.refusal.specs.Numbers.{text_room_too_small, number_of}
+use Rattle.refusal.specs.Numbers.{text_room_too_small}
 use Rattle.paper.specs.Table1.{code}
 use Rattle.paper.specs.Rules.{positive}
 use Rattle.paper.specs.Definitions.{Interpretation, value, Smallest, SmallestWellSupported}
@@ -148,15 +148,15 @@ value_sheet_is_short s wordRoom nameRoom x I e =
 -- a refusal's number is not 0, and number and place have room in the answer
 packs : (s : List ℕ) (wordRoom nameRoom : ℕ) (text : List ℕ) {r : SheetAnswer} {ws ns text' : List ℕ}
     → SheetAllows s wordRoom nameRoom text r ws ns text'
-    → (g : Refusal) → r ≡ Err g → Packable g × (1 ≤ number_of g.reason)
+    → (g : Refusal) → r ≡ Err g → Packable g × (1 ≤ g.number)
 packs s wordRoom nameRoom text (SheetAllows.refused {f} e) g same =
     let small : Small furthest f = subst SmallOutcome e (outcome_small s wordRoom nameRoom) in
     let is : f ≡ g = cc in
-    subst (λ (x : Refusal). Packable x × (1 ≤ number_of x.reason)) is (record { number_small = omega arith; place_small = omega arith }, small.2)
+    subst (λ (x : Refusal). Packable x × (1 ≤ x.number)) is (record { number_small = omega arith; place_small = omega arith }, small.2)
 packs s wordRoom nameRoom text (SheetAllows.does_not_fit {x} {I} e i h) g same =
     let short = value_sheet_is_short s wordRoom nameRoom x I e in
     let is : text_room_too_small (length (sheet_of s x I)) ≡ g = cc in
-    subst (λ (y : Refusal). Packable y × (1 ≤ number_of y.reason)) is (record { number_small = omega arith; place_small = short }, omega arith)
+    subst (λ (y : Refusal). Packable y × (1 ≤ y.number)) is (record { number_small = omega arith; place_small = short }, omega arith)
 packs s wordRoom nameRoom text (SheetAllows.accepted {x} {I} e i h) g same = absurd (let z : ◌≡◌ {A = ℕ} 0 1 = cc in omega arith)
 
 pub has_room : (s : List ℕ) (wordRoom nameRoom : ℕ) (text : List ℕ) {r : SheetAnswer} {ws ns text' : List ℕ}
@@ -178,7 +178,7 @@ pub answer_tells : (s words names text : List ℕ) {a : ℕ} {ws ns text' : List
     ⊎ ((x : Sofar) × (I : Interpretation) × (sheet_outcome s (length words / 2) (length names / 4) ≡ accepted x)
     × SmallestWellSupported (rules_in x.records) I
     × (length text < length (sheet_of s x I)) × (f ≡ text_room_too_small (length (sheet_of s x I)))))
-    × (a ≡ packed f) × (1 ≤ number_of f.reason) × (f.place < 4294967296))
+    × (a ≡ packed f) × (1 ≤ f.number) × (f.place < 4294967296))
 answer_tells s words names text (HostSheet.answered (SheetAllows.refused {f} e)) =
     let p = packs s (length words / 2) (length names / 4) text (SheetAllows.refused e) f refl in
     inr (f, inl e, refl, p.1, p.0.place_small)

@@ -36,16 +36,16 @@ fn fault_with(
     ensures { result ≡ fault_with names repeated body words place start }
 {
     if limits::MOST_ATOMS < names {
-        return refusal::refused(Reason::TooManyNames, start);
+        return Reason::TooManyNames.refused(start);
     }
     if repeated {
-        return refusal::refused(Reason::SecondRule, place);
+        return Reason::SecondRule.refused(place);
     }
     if limits::MOST_IN_BODY < body {
-        return refusal::refused(Reason::TooManyInBody, place);
+        return Reason::TooManyInBody.refused(place);
     }
     if limits::MOST_WORDS < words {
-        return refusal::refused(Reason::TooManyWords, place);
+        return Reason::TooManyWords.refused(place);
     }
     Ok(())
 }

@@ -23,7 +23,7 @@ fn atom_fault(n: u64, atom: u64) -> Result<(), Refusal>
     if atom < n {
         Ok(())
     } else {
-        refusal::refused(Reason::NoSuchAtom, 0)
+        Reason::NoSuchAtom.refused(0)
     }
 }
 
@@ -145,7 +145,7 @@ fn report_settled(record: MarkRecord, table: &[u16], values: &mut [u8]) -> Resul
     let rules = IndexedTable::build(table, &mut room);
     let goes_on = marking::can_go_on(&rules, &marks, n as usize);
     if goes_on {
-        return refusal::refused(Reason::NotSettled, 0);
+        return Reason::NotSettled.refused(0);
     }
     let held = pending::held(&rules, &marks);
     values::write_values(values, &marks, &held, n as usize);

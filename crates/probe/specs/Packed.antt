@@ -17,11 +17,10 @@ use Rattle.reader.specs.declared.Reading.{Reading}
 use Rattle.sheets.specs.SheetEntry.{SheetAllows, SheetAnswer}
 use mathlib.Core.Bool.{true, false}
 use Rattle.picks.specs.declared.PickAnswer.{PickAnswer}
-use Rattle.refusal.specs.Numbers.{number_of}
 
 -- 2^32 × number + place, taken modulo 2^64: nothing is lost while both are below 2^32
 unfoldable pub packed_wrapping : Refusal → ℕ
-packed_wrapping r = ((number_of r.reason * 2 ^ 32) % 2 ^ 64 + r.place) % 2 ^ 64
+packed_wrapping r = ((r.number * 2 ^ 32) % 2 ^ 64 + r.place) % 2 ^ 64
 
 -- done or refused
 abbrev pub checked_number : Checked → ℕ

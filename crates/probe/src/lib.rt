@@ -18,7 +18,7 @@ use sheets::SheetCounts;
 fn packed_refusal(r: Refusal) -> u64
     ensures { result ≡ packed_wrapping r }
 {
-    std::num::wrapping_add_u64(r.reason.number() << 32, r.place)
+    std::num::wrapping_add_u64(r.number << 32, r.place)
 }
 
 fn checked_number(answer: Result<(), Refusal>) -> u64

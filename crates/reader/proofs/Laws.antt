@@ -10,7 +10,7 @@ use lib.Dec.{leb, eqb}
 use lib.ListN.{length, drop}
 use borrow.Author.Tests.{leb-true, eqb-true, ne_eqb}
 use Rattle.refusal.specs.declared.Refusal.{Refusal}
-use Rattle.refusal.specs.Numbers.{wrong_byte, number_of}
+use Rattle.refusal.specs.Numbers.{wrong_byte}
 use Rattle.reader.specs.declared.Role.{Role}
 use Rattle.reader.specs.declared.Role.TheVariants.{Head, First, Further}
 use Rattle.reader.specs.declared.SheetLiteral.{SheetLiteral}
@@ -216,10 +216,9 @@ module _ (s : List ℕ) (p : ℕ) (l : SheetLiteral) (e : reading_at s p ≡ Lit
       ∙ ap₂ (λ (b : ℕ) (x : ℕ). cond (is_line_end b) (suc x) x) (sym (next_after s p l)) end
 
 -- what holds of every refusal by 8, 10 or 11, of every literal, and of the end at the sheet's end, holds of every reading
-module _ (P : Reading → Type 0) (refusals : (r : Refusal) → ReadersNumber (number_of r.reason) → P (Refused r))
-    (literals : (l : SheetLiteral) → P (Literal l))
+module _ (P : Reading → Type 0) (refusals : (r : Refusal) → ReadersNumber r.number → P (Refused r)) (literals : (l : SheetLiteral) → P (Literal l))
     (s : List ℕ) where
-  tested : (b : Bool) (r : Refusal) (rest : Reading) → ReadersNumber (number_of r.reason) → P rest → P (demanding Refused b r rest)
+  tested : (b : Bool) (r : Refusal) (rest : Reading) → ReadersNumber r.number → P rest → P (demanding Refused b r rest)
   tested b r rest h g = demanding_holds P Refused b r rest (refusals r h) (λ e. g)
 
   either : (b : Bool) (x y : Reading) → P x → P y → P (cond b x y)

@@ -2,7 +2,7 @@
 use Rattle.std.specs.Prelude.{List, ◌⊎◌, ◌≡◌, Bool, true, false, cond, ℕ, zero, suc, ◌+◌, leb, eqb, length, drop}
 use Rattle.refusal.specs.Checks.{demanding}
 use Rattle.limits.specs.Limits.{most_name_bytes, most_sheet_bytes}
-use Rattle.refusal.specs.Numbers.{sheet_too_long, wrong_byte, name_too_long, number_of}
+use Rattle.refusal.specs.Numbers.{sheet_too_long, wrong_byte, name_too_long}
 use Rattle.reader.specs.declared.Role.{Role}
 use Rattle.reader.specs.declared.Role.TheVariants.{Head, First, Further}
 use Rattle.reader.specs.declared.Next.{Next}
@@ -60,7 +60,7 @@ ReadersNumber n = (n ≡ 8) ⊎ ((n ≡ 10) ⊎ (n ≡ 11))
 
 abbrev pub GivesOnly : Reading → Type 0
 GivesOnly End = Unit {0}
-GivesOnly (Refused r) = ReadersNumber (number_of r.reason)
+GivesOnly (Refused r) = ReadersNumber r.number
 GivesOnly (Literal l) = Unit {0}
 
 -- a reading that is no literal: the end or a refusal

@@ -1,7 +1,7 @@
 #![tactic(auto)]
 
 ghost use Rattle.std.specs.Prelude.{◌≡◌, ◌+◌, ◌<◌, ◌≤◌, ◌^◌, length, get_or, drop};
-ghost use Rattle.refusal.specs.Numbers.{refusal};
+ghost use Rattle.refusal.specs.Numbers.{number_of, refusal};
 ghost use Rattle.reader.specs.Sheet.{starts_name, continues_name, name_run, may_follow, byte_before};
 ghost use Rattle.reader.specs.Readings.{ended_name, name_at, literal_at, line_at, reading_after, reading_at, place_after, next_at};
 
@@ -47,9 +47,9 @@ pub fn byte(sheet: &[u8], i: usize) -> u8
 
 // A reading that refuses.
 fn refused(reason: Reason, at: usize) -> Reading
-    ensures { result ≡ Reading.Refused (refusal reason at) }
+    ensures { result ≡ Reading.Refused (refusal (number_of reason) at) }
 {
-    Reading::Refused(refusal::at(reason, at))
+    Reading::Refused(reason.at(at))
 }
 
 fn starts_name(b: u8) -> bool

@@ -81,11 +81,11 @@ fn match_lines(values: &Values, text: &TextLines, lines: &mut [Line]) -> Result<
     for l in 0..2 * values.n {
         match match_literal(values, text, lines, l, k) {
             Some(next) => k = next,
-            None => return refusal::refused(Reason::LineNotJustified, k + 1),
+            None => return Reason::LineNotJustified.refused(k + 1),
         }
     }
     if k < text.count {
-        return refusal::refused(Reason::LineNotJustified, k + 1);
+        return Reason::LineNotJustified.refused(k + 1);
     }
     Ok(())
 }
@@ -106,7 +106,7 @@ fn line_fault(values: &Values, lines: &[Line], ok: &[u64]) -> Result<(), Refusal
     for l in 0..2 * values.n {
         if wants_line(values, l) {
             if !line_holds(lines, ok, l) {
-                return refusal::refused(Reason::LineNotJustified, k + 1);
+                return Reason::LineNotJustified.refused(k + 1);
             }
             k += 1;
         }
@@ -121,7 +121,7 @@ fn codes_fault(values: &[u8], n: usize) -> Result<(), Refusal>
 {
     for a in 0..n {
         if 3 < values[a] {
-            return refusal::refused(Reason::NotATruthCode, a);
+            return Reason::NotATruthCode.refused(a);
         }
     }
     Ok(())

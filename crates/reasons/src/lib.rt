@@ -95,7 +95,7 @@ fn print_sheet(text: &mut [u8], found: &Found, n: usize) -> Result<u64, Refusal>
 {
     let needed = sheet_length(found, n);
     if text.len() < needed {
-        return refusal::refused(Reason::TextRoomTooSmall, needed);
+        return Reason::TextRoomTooSmall.refused(needed);
     }
     put_sheet(text, found, n);
     Ok(needed as u64)

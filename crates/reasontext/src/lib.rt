@@ -129,11 +129,11 @@ fn end_fault(s: State, at: usize) -> Result<(), Refusal>
     let begun = s.begun;
     if field == 0 {
         if begun {
-            return refusal::refused(Reason::TextBroken, at);
+            return Reason::TextBroken.refused(at);
         }
         return Ok(());
     }
-    refusal::refused(Reason::TextBroken, at)
+    Reason::TextBroken.refused(at)
 }
 
 // What reading found: a fault, and how many numbers are whole.
@@ -159,7 +159,7 @@ pub fn read_numbers(text: &[u8], room: &mut [u16]) -> Numbers
         if breaks_text(s, b) {
             let count = s.count;
             return Numbers {
-                fault: refusal::refused(Reason::TextBroken, i),
+                fault: Reason::TextBroken.refused(i),
                 count,
             };
         }

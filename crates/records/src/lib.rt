@@ -38,7 +38,7 @@ pub fn fresh(n: u64) -> FreshRecord
 {
     if limits::MOST_N < n {
         return FreshRecord {
-            answer: refusal::refused(Reason::TooManyAtoms, 0),
+            answer: Reason::TooManyAtoms.refused(0),
             record: no_marks_for(0),
         };
     }
@@ -71,13 +71,13 @@ pub fn record_fault(record: MarkRecord) -> Result<(), Refusal>
     ensures { result ≡ record_fault «record» }
 {
     if limits::MOST_N < record.n {
-        return refusal::refused(Reason::TooManyAtoms, 0);
+        return Reason::TooManyAtoms.refused(0);
     }
     if marks_from(&record.marks, record.n as usize) {
-        return refusal::refused(Reason::BrokenRecord, 0);
+        return Reason::BrokenRecord.refused(0);
     }
     if record.count != bits::count(&record.marks) as u64 {
-        return refusal::refused(Reason::BrokenRecord, 0);
+        return Reason::BrokenRecord.refused(0);
     }
     Ok(())
 }

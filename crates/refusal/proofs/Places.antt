@@ -4,12 +4,11 @@ use Prim.Native.Nat.{ℕ, ◌≤◌}
 use native.Mathlib.Omega.{arith}
 use Rattle.refusal.specs.declared.Refusal.{Refusal}
 use Rattle.refusal.specs.Checks.{Checked, asking, or_else}
-use Rattle.refusal.specs.Numbers.{number_of}
 use Rattle.refusal.proofs.Laws.{demanding_holds}
 use Rattle.std.specs.Prelude.{Ok, Err}
 
 abbrev pub Small : ℕ → Refusal → Type 0
-Small b f = (number_of f.reason ≤ 18) × (f.place ≤ b) × (1 ≤ number_of f.reason)
+Small b f = (f.number ≤ 18) × (f.place ≤ b) × (1 ≤ f.number)
 
 abbrev pub PlacesTo : ℕ → Checked → Type 0
 PlacesTo b (Ok tt) = Unit {0}

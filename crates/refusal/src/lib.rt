@@ -37,28 +37,42 @@ impl Reason {
     {
         self as u64
     }
+
+    // The refusal for this reason at this place.
+    pub fn at(self, place: usize) -> Refusal
+        ensures { result ≡ refusal (number_of self) place }
+    {
+        at(self.number(), place)
+    }
+
+    // What refuses for this reason.
+    pub fn refused<T>(self, place: usize) -> Result<T, Refusal>
+        ensures { result ≡ Err (refusal (number_of self) place) }
+    {
+        refused(self.number(), place)
+    }
 }
 
-// A refusal: its reason, and the place that it names.
+// A refusal: its number, and the place that it names.
 #[derive(Clone, Copy, Debug, PartialEq, Eq)]
 pub struct Refusal {
-    pub reason: Reason,
+    pub number: u64,
     pub place: u64,
 }
 
-// The refusal for this reason at this place.
-pub fn at(reason: Reason, place: usize) -> Refusal
-    ensures { result ≡ refusal reason place }
+// The refusal of this number at this place.
+pub fn at(number: u64, place: usize) -> Refusal
+    ensures { result ≡ refusal number place }
 {
     Refusal {
-        reason,
+        number,
         place: place as u64,
     }
 }
 
-// What refuses.
-pub fn refused<T>(reason: Reason, place: usize) -> Result<T, Refusal>
-    ensures { result ≡ Err (refusal reason place) }
+// What refuses by this number.
+pub fn refused<T>(number: u64, place: usize) -> Result<T, Refusal>
+    ensures { result ≡ Err (refusal number place) }
 {
-    Err(at(reason, place))
+    Err(at(number, place))
 }

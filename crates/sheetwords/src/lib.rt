@@ -78,13 +78,13 @@ pub fn read_words(sheet: &[u8], words: &mut [u16], names: &mut [u32]) -> Result<
 {
     buffers::clear(words, names);
     if limits::MOST_SHEET_BYTES < sheet.len() {
-        return refusal::refused(Reason::SheetTooLong, 0);
+        return Reason::SheetTooLong.refused(0);
     }
     if words.len() < limits::MOST_WORDS {
-        return refusal::refused(Reason::BufferTooSmall, 0);
+        return Reason::BufferTooSmall.refused(0);
     }
     if names.len() < limits::MOST_ATOMS {
-        return refusal::refused(Reason::BufferTooSmall, 0);
+        return Reason::BufferTooSmall.refused(0);
     }
     fill_or_clear(sheet, words, names)
 }

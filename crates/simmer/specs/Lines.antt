@@ -2,8 +2,7 @@
 use Rattle.std.specs.Prelude.{List, ℕ, ◌++◌, codes}
 use Rattle.std.specs.Fmt.{decimal}
 use Rattle.refusal.specs.declared.Refusal.{Refusal}
-use Rattle.refusal.specs.Numbers.{number_of}
 
 -- refused, number, place, parted by tabs
 abbrev pub refusal_line : Refusal → List ℕ
-refusal_line r = codes "refused\t" ++ decimal (number_of r.reason) ++ codes "\t" ++ decimal r.place ++ codes "\n"
+refusal_line r = codes "refused\t" ++ decimal r.number ++ codes "\t" ++ decimal r.place ++ codes "\n"

@@ -85,7 +85,7 @@ fn write_refusal<W: Write>(out: &mut W, r: Refusal) -> io::Result<()>
     ensures { OnOk result (Appends (W.contents out.old) (W.contents out.new) (refusal_line r)) }
 {
     write_all(out, b"refused\t")?;
-    write_decimal(out, r.reason.number())?;
+    write_decimal(out, r.number)?;
     write_all(out, b"\t")?;
     write_decimal(out, r.place)?;
     write_all(out, b"\n")

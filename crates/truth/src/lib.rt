@@ -77,7 +77,7 @@ impl TryFrom<u64> for Truth {
             1 => Ok(Truth::Unknown),
             2 => Ok(Truth::Inconsistent),
             3 => Ok(Truth::True),
-            _ => refusal::refused(Reason::NotATruthCode, 0),
+            _ => Reason::NotATruthCode.refused(0),
         }
     }
 }

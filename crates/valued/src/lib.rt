@@ -194,7 +194,7 @@ pub fn model_fault(table: &[u16], values: &Values) -> Result<(), Refusal>
         };
         match rule.next_if_satisfied() {
             Some(next) => at = next,
-            None => return refusal::refused(Reason::NotAModel, at),
+            None => return Reason::NotAModel.refused(at),
         }
     }
     Ok(())

@@ -14,7 +14,7 @@ pub fn room_too_small(n: u64, room: u64) -> Result<(), Refusal>
     ensures { result ≡ room_too_small n room }
 {
     if room < n {
-        refusal::refused(Reason::ValueRoomTooSmall, 0)
+        Reason::ValueRoomTooSmall.refused(0)
     } else {
         Ok(())
     }

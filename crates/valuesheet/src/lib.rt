@@ -99,7 +99,7 @@ pub fn print(
 {
     let needed = bytes_needed(names, n);
     if text.len() < needed {
-        return refusal::refused(Reason::TextRoomTooSmall, needed);
+        return Reason::TextRoomTooSmall.refused(needed);
     }
     put_lines(sheet, names, n, values, text);
     Ok(needed)

@@ -56,7 +56,7 @@ fn code_fault(n: usize, at: usize, w: usize) -> Result<(), Refusal>
     if w < 2 * n {
         Ok(())
     } else {
-        refusal::refused(Reason::NotALiteral, at)
+        Reason::NotALiteral.refused(at)
     }
 }
 
@@ -65,7 +65,7 @@ fn repeat_fault(seen: &[u64], at: usize, w: usize) -> Result<(), Refusal>
     ensures { result ≡ repeat_fault (member seen.now) at w }
 {
     if bits::has(seen, w) {
-        refusal::refused(Reason::SecondRule, at)
+        Reason::SecondRule.refused(at)
     } else {
         Ok(())
     }
@@ -78,7 +78,7 @@ fn range_fault(least: usize, most: usize, at: usize, w: usize) -> Result<(), Ref
     if least <= w && w <= most {
         Ok(())
     } else {
-        refusal::refused(Reason::OutOfRange, at)
+        Reason::OutOfRange.refused(at)
     }
 }
 
@@ -147,7 +147,7 @@ fn ended_at(due: Due, words: usize) -> Result<(), Refusal>
     match due {
         Due::Head => Ok(()),
         Due::Line | Due::Count | Due::Size(_) | Due::Literal(_, _) => {
-            refusal::refused(Reason::CutShort, words)
+            Reason::CutShort.refused(words)
         }
     }
 }
@@ -173,7 +173,7 @@ pub fn table_too_long(table: &[u16]) -> Result<(), Refusal>
     ensures { result ≡ table_too_long_fault table.now }
 {
     if limits::MOST_WORDS < table.len() {
-        refusal::refused(Reason::TableTooLong, 0)
+        Reason::TableTooLong.refused(0)
     } else {
         Ok(())
     }
@@ -185,7 +185,7 @@ pub fn check(n: u64, table: &[u16]) -> Result<(), Refusal>
     ensures { result ≡ table_check n table.now }
 {
     if limits::MOST_N < n {
-        return refusal::refused(Reason::TooManyAtoms, 0);
+        return Reason::TooManyAtoms.refused(0);
     }
     table_too_long(table)?;
     walk_words(n as usize, table)
