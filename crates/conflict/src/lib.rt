@@ -25,7 +25,12 @@ fn some_both_in(set: &[u64], n: usize) -> bool
     requires { n ≤ most_atoms }
     ensures { result ≡ some_below (both_in (member set.now)) n }
 {
-    (0..n).any(|a| both_in(set, a))
+    for a in (0..n).rev() {
+        if both_in(set, a) {
+            return true;
+        }
+    }
+    false
 }
 
 // One Held, without a mark, and a look at each atom.

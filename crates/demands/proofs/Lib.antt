@@ -2,4 +2,3 @@
 mod Report
 mod Conflict
 pub mod Demands
-pub mod Turns

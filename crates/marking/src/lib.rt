@@ -38,7 +38,12 @@ fn some_markable(marks: &[u64], held: &[u64], clean: &[u64], n: usize) -> bool
     requires { n ≤ most_atoms }
     ensures { result ≡ some_below (markable (member marks.now) (member held.now) (member clean.now)) n }
 {
-    (0..n).any(|a| is_markable(marks, held, clean, a))
+    for a in (0..n).rev() {
+        if is_markable(marks, held, clean, a) {
+            return true;
+        }
+    }
+    false
 }
 
 // Can atom `a` be marked, by the rules of the table?

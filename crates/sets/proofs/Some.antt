@@ -1,8 +1,8 @@
 -- One of the first N numbers is in a set: found, or there is none. Assumes nothing.
 use mathlib.Core.Bool.{Bool, true, false, ◌||◌}
 use mathlib.Core.Logic.{⊎_elim}
-use mathlib.Core.Path.{◌≡◌, refl, ap, ◌∙◌}
-use Prim.Native.Nat.{ℕ, zero, suc, ◌+◌, ◌≤◌, ◌<◌}
+use mathlib.Core.Path.{◌≡◌, refl, sym, ap, ◌∙◌}
+use Prim.Native.Nat.{ℕ, zero, suc, ◌+◌, ◌-◌, ◌≤◌, ◌<◌}
 use native.Mathlib.Omega.{arith}
 use native.Mathlib.Decide.{ℕ_discrete}
 use lib.Dec.{T}
@@ -47,3 +47,23 @@ module _ (S : ℕ → Bool) where
   -- one number more
   pub some_more : (n : ℕ) → some_below S (suc n) ≡ (S n || some_below S n)
   some_more n = any_more 0 n ∙ ap (λ (a : ℕ). S a || some_below S n) (omega arith)
+
+  -- a turn of a loop that looks at the numbers from the last down: the one looked at is not in the set, ..
+  pub some_goes_on : (a : ℕ) (b : Bool) → 0 < a → b ≡ S (a - 1) → b ≡ false → {whole : Bool}
+      → some_below S a ≡ whole → some_below S (a - 1) ≡ whole
+  some_goes_on zero b lt e f inv = absurd (omega arith)
+  some_goes_on (suc n) b lt e f inv =
+      let k : suc n - 1 ≡ n = omega arith in
+      rw k (sym (some_more n ∙ ap (λ (x : Bool). x || some_below S n) (sym (ap S k) ∙ sym e ∙ f)) ∙ inv)
+
+  -- .. is in it, ..
+  pub some_found : (a : ℕ) (b : Bool) → 0 < a → b ≡ S (a - 1) → b ≡ true → {whole : Bool} → some_below S a ≡ whole → true ≡ whole
+  some_found zero b lt e f inv = absurd (omega arith)
+  some_found (suc n) b lt e f inv =
+      let k : suc n - 1 ≡ n = omega arith in
+      sym (some_more n ∙ ap (λ (x : Bool). x || some_below S n) (sym (ap S k) ∙ sym e ∙ f)) ∙ inv
+
+  -- .. or none is left
+  pub some_end : (a : ℕ) → a ≤ 0 → {whole : Bool} → some_below S a ≡ whole → false ≡ whole
+  some_end zero h inv = inv
+  some_end (suc n) h inv = absurd (omega arith)
