@@ -44,6 +44,7 @@ use Rattle.picks.proofs.Accepted as asked
 use Rattle.picks.proofs.Demand3 as rooms
 use Rattle.picks.proofs.OnlyLines.{pick_alike, settled_alike, report_alike}
 use Rattle.refusal.proofs.Questions.{question_determined, yes_exactly_if}
+use Rattle.refusal.proofs.Reasons.{HasReason}
 use Rattle.conflict.specs.Conflict.{ConflictAllows}
 use Rattle.conflict.proofs.OnlyLines.{conflict_alike}
 use Rattle.evaluation.specs.Evaluation.{evaluation_fault, EvaluationAllows}
@@ -262,11 +263,12 @@ pub host_evaluation_refused : (N : ℕ) (bytes room : List ℕ) {f : Refusal} {a
     → HostEvaluation N bytes room answer room' → (answer ≡ packed f) × (room' ≡ room)
 host_evaluation_refused N bytes room e o = host_determined N bytes room o (HostEvaluation.refused e)
 
--- so an answer tells its cause: 0 if nothing refuses, else the fault that the order finds, with its number in the high half and its place in the low one
+-- so an answer tells its cause: 0 if nothing refuses, else the fault that the order finds, with its number, which is a reason's, in the high half and
+-- its place in the low one
 pub host_evaluation_tells : (N : ℕ) (bytes room : List ℕ) {answer : ℕ} {room' : List ℕ} → HostEvaluation N bytes room answer room'
     → ((host_fault N (words_in bytes) (lone_byte bytes) (length room) ≡ Ok tt) × (answer ≡ 0))
     ⊎ ((f : Refusal) × (host_fault N (words_in bytes) (lone_byte bytes) (length room) ≡ Err f)
-    × (answer ≡ packed f) × (1 ≤ f.number) × (f.place < 4294967296))
+    × (answer ≡ packed f) × (1 ≤ f.number) × (f.place < 4294967296) × HasReason f)
 host_evaluation_tells = host_answer_tells
 
 pub host_evaluation_zero : (N : ℕ) (bytes room : List ℕ) {answer : ℕ} {room' : List ℕ} → HostEvaluation N bytes room answer room'
@@ -286,7 +288,7 @@ pub host_conflict_tells : (N : ℕ) (bytes : List ℕ) {answer : ℕ} → HostCo
     → ((host_table_fault N (words_in bytes) (lone_byte bytes) ≡ Ok tt) × (Conflict (rules_of (words_in bytes)) → ⊥) × (answer ≡ 0))
     ⊎ (((host_table_fault N (words_in bytes) (lone_byte bytes) ≡ Ok tt) × Conflict (rules_of (words_in bytes)) × (answer ≡ 1))
     ⊎ ((f : Refusal) × (host_table_fault N (words_in bytes) (lone_byte bytes) ≡ Err f)
-    × (answer ≡ packed f) × (1 ≤ f.number) × (f.place < 4294967296)))
+    × (answer ≡ packed f) × (1 ≤ f.number) × (f.place < 4294967296) × HasReason f))
 host_conflict_tells = host.conflict_answer_tells
 
 -- the sheet reader: only 8, 10 and 11, at every place; the same again after the end or a refusal; and it ends
@@ -336,7 +338,7 @@ pub host_sheet_tells : (s words names text : List ℕ) {answer : ℕ} {ws ns tex
     ⊎ ((x : Sofar) × (I : Interpretation) × (sheet_outcome s (length words / 2) (length names / 4) ≡ sheet.accepted x)
     × SmallestWellSupported (rules_in x.records) I
     × (length text < length (sheet_of s x I)) × (f ≡ text_room_too_small (length (sheet_of s x I)))))
-    × (answer ≡ packed f) × (1 ≤ f.number) × (f.place < 4294967296))
+    × (answer ≡ packed f) × (1 ≤ f.number) × (f.place < 4294967296) × HasReason f)
 host_sheet_tells = answer_tells
 
 -- ---- Demand 2. For an accepted table every atom's value is its value in the smallest well-supported model, by Definitions 5, 6, 8, 9 as printed.
@@ -688,7 +690,8 @@ pub host_check_tells : (N : ℕ) (bytes values text : List ℕ) {answer : ℕ} �
     → ((host_fault N (words_in bytes) (lone_byte bytes) (length values) ≡ Ok tt) × CheckAllows N (words_in bytes) values text (Ok tt) ×
     (answer ≡ 0))
     ⊎ ((f : Refusal) × ReadsAs answer f × ((host_fault N (words_in bytes) (lone_byte bytes) (length values) ≡ Err f)
-    ⊎ ((host_fault N (words_in bytes) (lone_byte bytes) (length values) ≡ Ok tt) × CheckAllows N (words_in bytes) values text (Err f))))
+    ⊎ ((host_fault N (words_in bytes) (lone_byte bytes) (length values) ≡ Ok tt) × CheckAllows N (words_in bytes) values text (Err f)))
+    × HasReason f)
 host_check_tells N bytes values text = check_answer_tells N bytes values text
 
 -- a room of the length that the writer asks for by 15 serves it

@@ -14,6 +14,7 @@ use Rattle.refusal.specs.Checks.{Checked, Decided}
 use Rattle.refusal.specs.Questions.{refused, answers_yes, answers_no}
 use Rattle.refusal.proofs.Laws.{or_else_nothing, refused≢accepted}
 use Rattle.refusal.proofs.Places.{PlacesTo}
+use Rattle.refusal.proofs.Reasons.{HasReason, small_has_reason}
 use Rattle.refusal.proofs.Questions.{question_determined, question_same, question_refused}
 use Rattle.words.specs.Check.{table_check}
 use Rattle.words.specs.Layout.{rules_of}
@@ -75,12 +76,12 @@ module _ (N : ℕ) (bytes : List ℕ) where
       → ((host_table_fault N (words_in bytes) (lone_byte bytes) ≡ Ok tt) × (Conflict (rules_of (words_in bytes)) → ⊥) × (answer ≡ 0))
       ⊎ (((host_table_fault N (words_in bytes) (lone_byte bytes) ≡ Ok tt) × Conflict (rules_of (words_in bytes)) × (answer ≡ 1))
       ⊎ ((f : Refusal) × (host_table_fault N (words_in bytes) (lone_byte bytes) ≡ Err f)
-      × (answer ≡ packed f) × (1 ≤ f.number) × (f.place < 4294967296)))
+      × (answer ≡ packed f) × (1 ≤ f.number) × (f.place < 4294967296) × HasReason f))
   conflict_answer_tells (HostConflict.answered (answers_no e n)) = inl (e, n, refl)
   conflict_answer_tells (HostConflict.answered (answers_yes e c)) = inr (inl (e, c, refl))
   conflict_answer_tells (HostConflict.answered (refused {f} e)) =
       let k : PlacesTo 8192 (Err f) = subst (PlacesTo 8192) e (table_within N (words_in bytes) (lone_byte bytes)) in
-      inr (inr (f, e, refl, k.2, omega (arith, k.1)))
+      inr (inr (f, e, refl, k.2, omega (arith, k.1), small_has_reason 8192 f k))
 
   pub one_exactly_if_conflict : host_table_fault N (words_in bytes) (lone_byte bytes) ≡ Ok tt → {answer : ℕ} → HostConflict N bytes answer
       → (answer ≡ 1) ↔ Conflict (rules_of (words_in bytes))

@@ -12,6 +12,7 @@ use Rattle.refusal.specs.Checks.{asking}
 use Rattle.words.specs.Check.{AcceptedTable}
 use Rattle.words.specs.Layout.{rules_of}
 use Rattle.refusal.proofs.Places.{PlacesTo}
+use Rattle.refusal.proofs.Reasons.{HasReason, small_has_reason}
 use Rattle.refusal.proofs.Laws.{or_else_accepted, refused≢accepted}
 use Rattle.words.proofs.Laws.{accepted_length}
 use Rattle.paper.specs.Rules.{positive}
@@ -50,10 +51,10 @@ host_within N t lone room =
 pub host_answer_tells : (N : ℕ) (bytes room : List ℕ) {a : ℕ} {room' : List ℕ} → HostEvaluation N bytes room a room'
     → ((host_fault N (words_in bytes) (lone_byte bytes) (length room) ≡ Ok tt) × (a ≡ 0))
     ⊎ ((f : Refusal) × (host_fault N (words_in bytes) (lone_byte bytes) (length room) ≡ Err f)
-    × (a ≡ packed f) × (1 ≤ f.number) × (f.place < 4294967296))
+    × (a ≡ packed f) × (1 ≤ f.number) × (f.place < 4294967296) × HasReason f)
 host_answer_tells N bytes room (HostEvaluation.refused {f} e) =
     let k : PlacesTo 8192 (Err f) = subst (PlacesTo 8192) e (host_within N (words_in bytes) (lone_byte bytes) (length room)) in
-    inr (f, e, refl, k.2, omega (arith, k.1))
+    inr (f, e, refl, k.2, omega (arith, k.1), small_has_reason 8192 f k)
 host_answer_tells N bytes room (HostEvaluation.evaluated e I s) = inl (e, refl)
 
 pub zero_exactly_if_accepted : (N : ℕ) (bytes room : List ℕ) {a : ℕ} {room' : List ℕ} → HostEvaluation N bytes room a room'

@@ -10,9 +10,11 @@ use lib.ListN.{length, take}
 use borrow.Author.Tests.{eq-eqb, ne_eqb, le-leb}
 use Rattle.refusal.specs.declared.Refusal.{Refusal}
 use Rattle.refusal.specs.Checks.{Checked, or_else}
+use Rattle.refusal.specs.declared.Reason.TheVariants.{NotATruthCode, TextBroken, LineNotJustified, NotAModel}
 use Rattle.refusal.specs.Numbers.{not_a_truth_code}
 use Rattle.refusal.proofs.Laws.{or_else_nothing, demanding_holds}
 use Rattle.refusal.proofs.Places.{PlacesTo}
+use Rattle.refusal.proofs.Reasons.{HasReason, small_has_reason}
 use Rattle.paper.specs.Definitions.{Interpretation}
 use Rattle.valued.specs.Model.{ModelAllows, is_a_model, is_none}
 use Rattle.evaluation.specs.Evaluation.{evaluation_fault}
@@ -33,39 +35,41 @@ use Rattle.std.specs.Prelude.{Ok, Err}
 -- a refusal's number is one of the documents'
 abbrev pub KnownNumber : Checked → Type 0
 KnownNumber (Ok tt) = Unit {0}
-KnownNumber (Err f) = (1 ≤ f.number) × (f.number ≤ 34)
+KnownNumber (Err f) = (1 ≤ f.number) × (f.number ≤ 34) × HasReason f
 
 places_known : (b : ℕ) (x : Checked) → PlacesTo b x → KnownNumber x
 places_known b (Ok tt) h = tt
-places_known b (Err f) h = (h.2, omega (arith, h.0))
+places_known b (Err f) h = (h.2, omega (arith, h.0), small_has_reason b f h)
 
-or_else_known : (x y : Checked) → KnownNumber x → KnownNumber y → KnownNumber (or_else x y)
-or_else_known (Ok tt) y h k = k
-or_else_known (Err f) y h k = h
+-- what is known of two faults is known of the one that decides
+or_else_known : (P : Checked → Type 0) (x y : Checked) → P x → P y → P (or_else x y)
+or_else_known P (Ok tt) y h k = k
+or_else_known P (Err f) y h k = h
 
 codes_known : (a : ℕ) (vs : List ℕ) → KnownNumber (codes_fault a vs)
 unfolding codes_fault
 codes_known a [] = tt
 codes_known a (v ∷ vs) =
-    demanding_holds KnownNumber Err (leb v 3) (not_a_truth_code a) (codes_fault (suc a) vs) (omega arith, omega arith) (λ e. codes_known (suc a) vs)
+    demanding_holds KnownNumber Err (leb v 3) (not_a_truth_code a) (codes_fault (suc a) vs)
+    (omega arith, omega arith, (NotATruthCode, refl)) (λ e. codes_known (suc a) vs)
 
 fault_known : (N : ℕ) (t values : List ℕ) → KnownNumber (check_fault N t values)
 unfolding check_fault
 fault_known N t values =
-    or_else_known (evaluation_fault N t (length values)) (codes_fault 0 (take N values))
+    or_else_known KnownNumber (evaluation_fault N t (length values)) (codes_fault 0 (take N values))
     (places_known 8192 (evaluation_fault N t (length values)) (evaluation_within N t (length values))) (codes_known 0 (take N values))
 
 model_known : {I : Interpretation} {t : List ℕ} {x : Checked} → ModelAllows I t x → KnownNumber x
 model_known (is_a_model m) = tt
-model_known (is_none f) = (omega arith, omega arith)
+model_known (is_none f) = (omega arith, omega arith, (NotAModel, refl))
 
 module _ (N : ℕ) (t values text : List ℕ) where
   pub check_known : {x : Checked} → CheckAllows N t values text x → KnownNumber x
   check_known (CheckAllows.refused e) = subst KnownNumber e (fault_known N t values)
-  check_known (is_broken e b) = (omega arith, omega arith)
+  check_known (is_broken e b) = (omega arith, omega arith, (TextBroken, refl))
   check_known (no_model e ls g m) = model_known m
-  check_known (not_wanted e ls g m f) = (omega arith, omega arith)
-  check_known (not_justified e ls g m c f) = (omega arith, omega arith)
+  check_known (not_wanted e ls g m f) = (omega arith, omega arith, (LineNotJustified, refl))
+  check_known (not_justified e ls g m c f) = (omega arith, omega arith, (LineNotJustified, refl))
   check_known (accepts e ls g m c f) = tt
 
   pub check_small : (x : Checked) → CheckAllows N t values text x → NumberSmall x

@@ -10,6 +10,7 @@ use lib.ListN.{length}
 use borrow.Author.Tests.{leb-true, le-leb}
 use Rattle.refusal.specs.declared.Refusal.{Refusal}
 use Rattle.refusal.proofs.Laws.{refused≢accepted}
+use Rattle.refusal.proofs.Reasons.{HasReason}
 use Rattle.host.specs.Bytes.{words_in, lone_byte}
 use Rattle.host.specs.Evaluation.{host_fault, packed, HostEvaluation}
 use Rattle.host.proofs.Determined.{host_answer_tells}
@@ -35,12 +36,12 @@ pub record ReadsAs (a : ℕ) (f : Refusal) : Type 0 where
 reads : (f : Refusal) → 1 ≤ f.number → ReadsAs (packed_check (Err f)) f
 reads f h = let k = readable_small f.place in record { known = h; number_is = omega arith; place_is = omega arith }
 
--- a fault of the table or its room has a small place
+-- a fault of the table or its room has a reason's number and a small place
 small_place : (N : ℕ) (bs values : List ℕ) (f : Refusal) → host_fault N (words_in bs) (lone_byte bs) (length values) ≡ Err f
-    → (1 ≤ f.number) × (f.place < 4294967296)
+    → (1 ≤ f.number) × (f.place < 4294967296) × HasReason f
 small_place N bs values f e =
     ⊎_elim (λ q. absurd (refused≢accepted f (sym e ∙ q.0)))
-    (λ q. let same : q.0 ≡ f = cc in subst (λ (x : Refusal). (1 ≤ x.number) × (x.place < 4294967296)) same (q.3, q.4))
+    (λ q. let same : q.0 ≡ f = cc in subst (λ (x : Refusal). (1 ≤ x.number) × (x.place < 4294967296) × HasReason x) same (q.3, q.4, q.5))
     (host_answer_tells N bs values (HostEvaluation.refused e))
 
 module _ (N : ℕ) (bs values text : List ℕ) where
@@ -55,11 +56,12 @@ module _ (N : ℕ) (bs values text : List ℕ) where
       → ((host_fault N (words_in bs) (lone_byte bs) (length values) ≡ Ok tt) × CheckAllows N (words_in bs) values text (Ok tt) × (a ≡ 0))
       ⊎ ((f : Refusal) × ReadsAs a f
       × ((host_fault N (words_in bs) (lone_byte bs) (length values) ≡ Err f)
-      ⊎ ((host_fault N (words_in bs) (lone_byte bs) (length values) ≡ Ok tt) × CheckAllows N (words_in bs) values text (Err f))))
+      ⊎ ((host_fault N (words_in bs) (lone_byte bs) (length values) ≡ Ok tt) × CheckAllows N (words_in bs) values text (Err f)))
+      × HasReason f)
   check_answer_tells (HostCheck.refused {f} e) =
       let q = small_place N bs values f e in
       let same : readable_place f.place ≡ f.place = rw (le-leb f.place 4294967295 (omega (arith, q.1))) refl in
-      inr (f, subst (λ (p : ℕ). ReadsAs (4294967296 * f.number + p) f) same (reads f q.0), inl e)
+      inr (f, subst (λ (p : ℕ). ReadsAs (4294967296 * f.number + p) f) same (reads f q.0), inl e, q.2)
   check_answer_tells (HostCheck.answered e {answer = (Ok tt)} c) = inl (e, c, refl)
   check_answer_tells (HostCheck.answered e {answer = Err f} c) =
-      let k : KnownNumber (Err f) = check_known N (words_in bs) values text c in inr (f, reads f k.0, inr (e, c))
+      let k : KnownNumber (Err f) = check_known N (words_in bs) values text c in inr (f, reads f k.0, inr (e, c), k.2)

@@ -11,6 +11,7 @@ use borrow.Author.Tests.{leb-true}
 use Rattle.words.specs.Layout.{rules_in}
 use Rattle.refusal.proofs.Laws.{demanding_holds}
 use Rattle.refusal.specs.declared.Refusal.{Refusal}
+use Rattle.refusal.specs.declared.Reason.TheVariants.{TextRoomTooSmall}
 use Rattle.refusal.specs.Numbers.{text_room_too_small}
 use Rattle.paper.specs.Table1.{code}
 use Rattle.paper.specs.Rules.{positive}
@@ -18,6 +19,7 @@ use Rattle.paper.specs.Definitions.{Interpretation, value, Smallest, SmallestWel
 use Rattle.paper.proofs.Theorems.{smallest_by_test}
 use Rattle.refusal.specs.Checks.{Checked, demanding}
 use Rattle.refusal.proofs.Places.{PlacesTo, asking_to, Small}
+use Rattle.refusal.proofs.Reasons.{HasReason, small_has_reason}
 use Rattle.reader.specs.declared.Role.{Role}
 use Rattle.reader.specs.declared.Role.TheVariants.{Head, First, Further}
 use Rattle.reader.specs.declared.SheetLiteral.{SheetLiteral}
@@ -145,18 +147,20 @@ value_sheet_is_short s wordRoom nameRoom x I e =
     let few = (sheet_within s wordRoom nameRoom x e).at_most_512 in
     omega (arith, few, lines_length s (λ a. code (value I (positive a))) 0 x.names, lines_small x.names)
 
--- a refusal's number is not 0, and number and place have room in the answer
+-- a refusal's number is a reason's, and not 0, and number and place have room in the answer
 packs : (s : List ℕ) (wordRoom nameRoom : ℕ) (text : List ℕ) {r : SheetAnswer} {ws ns text' : List ℕ}
     → SheetAllows s wordRoom nameRoom text r ws ns text'
-    → (g : Refusal) → r ≡ Err g → Packable g × (1 ≤ g.number)
+    → (g : Refusal) → r ≡ Err g → Packable g × (1 ≤ g.number) × HasReason g
 packs s wordRoom nameRoom text (SheetAllows.refused {f} e) g same =
     let small : Small furthest f = subst SmallOutcome e (outcome_small s wordRoom nameRoom) in
     let is : f ≡ g = cc in
-    subst (λ (x : Refusal). Packable x × (1 ≤ x.number)) is (record { number_small = omega arith; place_small = omega arith }, small.2)
+    subst (λ (x : Refusal). Packable x × (1 ≤ x.number) × HasReason x) is
+    (record { number_small = omega arith; place_small = omega arith }, small.2, small_has_reason furthest f small)
 packs s wordRoom nameRoom text (SheetAllows.does_not_fit {x} {I} e i h) g same =
     let short = value_sheet_is_short s wordRoom nameRoom x I e in
     let is : text_room_too_small (length (sheet_of s x I)) ≡ g = cc in
-    subst (λ (y : Refusal). Packable y × (1 ≤ y.number)) is (record { number_small = omega arith; place_small = short }, omega arith)
+    subst (λ (y : Refusal). Packable y × (1 ≤ y.number) × HasReason y) is
+    (record { number_small = omega arith; place_small = short }, omega arith, (TextRoomTooSmall, refl))
 packs s wordRoom nameRoom text (SheetAllows.accepted {x} {I} e i h) g same = absurd (let z : ◌≡◌ {A = ℕ} 0 1 = cc in omega arith)
 
 pub has_room : (s : List ℕ) (wordRoom nameRoom : ℕ) (text : List ℕ) {r : SheetAnswer} {ws ns text' : List ℕ}
@@ -178,10 +182,10 @@ pub answer_tells : (s words names text : List ℕ) {a : ℕ} {ws ns text' : List
     ⊎ ((x : Sofar) × (I : Interpretation) × (sheet_outcome s (length words / 2) (length names / 4) ≡ accepted x)
     × SmallestWellSupported (rules_in x.records) I
     × (length text < length (sheet_of s x I)) × (f ≡ text_room_too_small (length (sheet_of s x I)))))
-    × (a ≡ packed f) × (1 ≤ f.number) × (f.place < 4294967296))
+    × (a ≡ packed f) × (1 ≤ f.number) × (f.place < 4294967296) × HasReason f)
 answer_tells s words names text (HostSheet.answered (SheetAllows.refused {f} e)) =
     let p = packs s (length words / 2) (length names / 4) text (SheetAllows.refused e) f refl in
-    inr (f, inl e, refl, p.1, p.0.place_small)
+    inr (f, inl e, refl, p.1, p.0.place_small, p.2)
 answer_tells s words names text (HostSheet.answered (SheetAllows.does_not_fit {x} {I} e i h)) =
     inr (
       text_room_too_small (length (sheet_of s x I)),
@@ -189,6 +193,7 @@ answer_tells s words names text (HostSheet.answered (SheetAllows.does_not_fit {x
       refl,
       omega arith,
       value_sheet_is_short s (length words / 2) (length names / 4) x I e,
+      (TextRoomTooSmall, refl),
     )
 answer_tells s words names text (HostSheet.answered (SheetAllows.accepted {x} {I} e i h)) =
     inl (x, I, e, printed s (length words / 2) (length names / 4) x I e i, h, refl, value_sheet_is_short s (length words / 2) (length names / 4) x I e)
