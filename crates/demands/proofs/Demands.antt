@@ -263,7 +263,7 @@ pub host_evaluation_refused : (N : ℕ) (bytes room : List ℕ) {f : Refusal} {a
     → HostEvaluation N bytes room answer room' → (answer ≡ packed f) × (room' ≡ room)
 host_evaluation_refused N bytes room e o = host_determined N bytes room o (HostEvaluation.refused e)
 
--- so an answer tells its cause: 0 if nothing refuses, else the fault that the order finds, with its number, which is a reason's, in the high half and
+-- so an answer tells its cause: 0 if nothing refuses, else the fault that the order finds, with its number, one of the 22, in the high half and
 -- its place in the low one
 pub host_evaluation_tells : (N : ℕ) (bytes room : List ℕ) {answer : ℕ} {room' : List ℕ} → HostEvaluation N bytes room answer room'
     → ((host_fault N (words_in bytes) (lone_byte bytes) (length room) ≡ Ok tt) × (answer ≡ 0))

@@ -9,10 +9,10 @@ use lib.Dec.{leb}
 use lib.ListN.{length, take}
 use borrow.Author.Tests.{eq-eqb, ne_eqb, le-leb}
 use Rattle.refusal.specs.declared.Refusal.{Refusal}
-use Rattle.refusal.specs.Checks.{Checked, or_else}
+use Rattle.refusal.specs.Checks.{Checked}
 use Rattle.refusal.specs.declared.Reason.TheVariants.{NotATruthCode, TextBroken, LineNotJustified, NotAModel}
 use Rattle.refusal.specs.Numbers.{not_a_truth_code}
-use Rattle.refusal.proofs.Laws.{or_else_nothing, demanding_holds}
+use Rattle.refusal.proofs.Laws.{or_else_nothing, or_else_known, demanding_holds}
 use Rattle.refusal.proofs.Places.{PlacesTo}
 use Rattle.refusal.proofs.Reasons.{HasReason, small_has_reason}
 use Rattle.paper.specs.Definitions.{Interpretation}
@@ -40,11 +40,6 @@ KnownNumber (Err f) = (1 ≤ f.number) × (f.number ≤ 34) × HasReason f
 places_known : (b : ℕ) (x : Checked) → PlacesTo b x → KnownNumber x
 places_known b (Ok tt) h = tt
 places_known b (Err f) h = (h.2, omega (arith, h.0), small_has_reason b f h)
-
--- what is known of two faults is known of the one that decides
-or_else_known : (P : Checked → Type 0) (x y : Checked) → P x → P y → P (or_else x y)
-or_else_known P (Ok tt) y h k = k
-or_else_known P (Err f) y h k = h
 
 codes_known : (a : ℕ) (vs : List ℕ) → KnownNumber (codes_fault a vs)
 unfolding codes_fault

@@ -30,6 +30,11 @@ pub or_else_accepted : (a b : Checked) → or_else a b ≡ Ok tt → (a ≡ Ok t
 or_else_accepted (Ok tt) b e = (refl, e)
 or_else_accepted (Err r) b e = absurd (refused≢accepted r e)
 
+-- what is known of two faults is known of the one that decides
+pub or_else_known : (P : Checked → Type 0) (x y : Checked) → P x → P y → P (or_else x y)
+or_else_known P (Ok tt) y h k = k
+or_else_known P (Err f) y h k = h
+
 -- nothing after it to refuse
 pub or_else_nothing : (c : Checked) → or_else c (Ok tt) ≡ c
 or_else_nothing (Ok tt) = refl

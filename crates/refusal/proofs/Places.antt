@@ -4,7 +4,7 @@ use Prim.Native.Nat.{ℕ, ◌≤◌}
 use native.Mathlib.Omega.{arith}
 use Rattle.refusal.specs.declared.Refusal.{Refusal}
 use Rattle.refusal.specs.Checks.{Checked, asking, or_else}
-use Rattle.refusal.proofs.Laws.{demanding_holds}
+use Rattle.refusal.proofs.Laws.{demanding_holds, or_else_known}
 use Rattle.std.specs.Prelude.{Ok, Err}
 
 abbrev pub Small : ℕ → Refusal → Type 0
@@ -18,8 +18,7 @@ pub asking_to : (b : ℕ) (t : Bool) (f : Refusal) (rest : Checked) → Small b 
 asking_to b t f rest h k = demanding_holds (PlacesTo b) Err t f rest h (λ e. k)
 
 pub or_else_to : (b : ℕ) (x y : Checked) → PlacesTo b x → PlacesTo b y → PlacesTo b (or_else x y)
-or_else_to b (Ok tt) y h k = k
-or_else_to b (Err f) y h k = h
+or_else_to b = or_else_known (PlacesTo b)
 
 pub to_more : (b c : ℕ) → b ≤ c → (x : Checked) → PlacesTo b x → PlacesTo c x
 to_more b c h (Ok tt) k = tt

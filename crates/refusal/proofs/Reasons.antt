@@ -9,7 +9,7 @@ use Rattle.refusal.specs.declared.Reason.TheVariants.{TooManyAtoms, TableTooLong
 use Rattle.refusal.specs.Numbers.{number_of}
 use Rattle.refusal.proofs.Places.{Small}
 
--- one of the documents' numbers
+-- the number is 1 to 18, 20 to 22 or 34
 abbrev pub HasReason : Refusal → Type 0
 HasReason f = (r : Reason) × (f.number ≡ number_of r)
 
